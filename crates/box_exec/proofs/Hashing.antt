@@ -29,7 +29,7 @@ use Rattle.box_exec.specs.declared.lookup.Keyed.{Keyed}
 use Rattle.box_exec.specs.declared.key.Key.{Key}
 use Rattle.row_index.specs.declared.ways.Way.{Way}
 use Rattle.box_exec.specs.declared.hashed.Whole.{Whole}
-use Rattle.box_exec.specs.declared.source.Source.{Source}
+use Rattle.row_bag.specs.declared.operand.Operand.{Operand}
 use Rattle.box_exec.specs.declared.under.Loop.{Loop}
 use Rattle.box_exec.specs.declared.under.Under.{Under}
 use Rattle.box_exec.specs.declared.under.Under.TheVariants.{Kept, Open, Nothing}
@@ -41,7 +41,7 @@ use Rattle.list_laws.proofs.Booleans.{neither-left, neither-right}
 
 -- ---- what stands under quantifiers
 
-pub kept-alike : (tables : List Table) (memo : List (Option Source)) (below : List Node) (b : ℕ) (u : Under) → Under_stands tables memo below b u → is_open u ≡ false → (env : Environment) → Alike (rows_kept u) (bag_in tables below b env)
+pub kept-alike : (tables : List Table) (memo : List (Option Operand)) (below : List Node) (b : ℕ) (u : Under) → Under_stands tables memo below b u → is_open u ≡ false → (env : Environment) → Alike (rows_kept u) (bag_in tables below b env)
 kept-alike tables memo below b (Kept rows) s h env = s env
 kept-alike tables memo below b (Open n behind) s h env = absurd (let z : ⊥ = cc in z)
 kept-alike tables memo below b Nothing s h env = alike-same (sym (s env))

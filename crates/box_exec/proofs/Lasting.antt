@@ -26,7 +26,7 @@ use Rattle.box_exec.specs.declared.lookup.Keyed.{Keyed}
 use Rattle.list_laws.specs.Lists.{first}
 use Rattle.box_exec.specs.declared.order.Order.{Order}
 use Rattle.box_exec.specs.declared.plan.Plan.{Plan}
-use Rattle.box_exec.specs.declared.source.Source.{Source}
+use Rattle.row_bag.specs.declared.operand.Operand.{Operand}
 use Rattle.box_exec.specs.declared.under.Loop.{Loop}
 use Rattle.box_exec.proofs.Entries.{get-before, get-end, here}
 use Rattle.box_exec.proofs.Places.{not-there}
@@ -34,7 +34,7 @@ use Rattle.box_exec.proofs.Quantifiers.{range-at, range-within}
 
 -- ---- kept rows
 
-stored-first : (memo : List (Option Source)) (ns : List Node) (b i : ℕ) (d : Node) → i < length ns → is_box b (get_or ns i d) ≡ true → ((k : ℕ) → k < i → is_box b (get_or ns k d) ≡ false)
+stored-first : (memo : List (Option Operand)) (ns : List Node) (b i : ℕ) (d : Node) → i < length ns → is_box b (get_or ns i d) ≡ true → ((k : ℕ) → k < i → is_box b (get_or ns k d) ≡ false)
     → rows_stored memo ns b ≡ rows_in (slice_get memo (length (drop (suc i) ns)))
 stored-first memo [] b i d l t before = absurd (omega (arith, l))
 stored-first memo (n ∷ ns) b zero d l t before = ap (λ (x : Bool). cond x (rows_in (slice_get memo (length ns))) (rows_stored memo ns b)) t
@@ -43,7 +43,7 @@ stored-first memo (n ∷ ns) b (suc i) d l t before =
     ∙ stored-first memo ns b i d (omega (arith, l)) t (λ k m. before (suc k) (omega (arith, m)))
 
 -- of a box that stands among these
-pub stored-at : (memo : List (Option Source)) (ns behind : List Node) (b i : ℕ) → position (is_box b) ns ≡ Some i → behind ≡ drop (i + 1) ns → rows_stored memo ns b ≡ rows_in (slice_get memo (length behind))
+pub stored-at : (memo : List (Option Operand)) (ns behind : List Node) (b i : ℕ) → position (is_box b) ns ≡ Some i → behind ≡ drop (i + 1) ns → rows_stored memo ns b ≡ rows_in (slice_get memo (length behind))
 stored-at memo [] behind b i e is = absurd (let z : ⊥ = cc in z)
 stored-at memo (n ∷ ns) behind b i e is =
     let h = position-Some (is_box b) (n ∷ ns) i n e in
@@ -51,7 +51,7 @@ stored-at memo (n ∷ ns) behind b i e is =
     ∙ ap (λ (k : ℕ). rows_in (slice_get memo (length (drop k (n ∷ ns))))) (sym (add-one i))
     ∙ ap (λ (ms : List Node). rows_in (slice_get memo (length ms))) (sym is)
 
-stored-absent : (memo : List (Option Source)) (ns : List Node) (b : ℕ) → has_box ns b ≡ false → rows_stored memo ns b ≡ []
+stored-absent : (memo : List (Option Operand)) (ns : List Node) (b : ℕ) → has_box ns b ≡ false → rows_stored memo ns b ≡ []
 stored-absent memo [] b h = refl
 stored-absent memo (n ∷ ns) b h =
     elim (cases_Bool (n.id == b)) [
@@ -60,20 +60,20 @@ stored-absent memo (n ∷ ns) b h =
     ]
 
 -- of one that doesn't
-pub stored-none : (memo : List (Option Source)) (ns : List Node) (b : ℕ) → position (is_box b) ns ≡ None → rows_stored memo ns b ≡ []
+pub stored-none : (memo : List (Option Operand)) (ns : List Node) (b : ℕ) → position (is_box b) ns ≡ None → rows_stored memo ns b ≡ []
 stored-none memo ns b e = stored-absent memo ns b (not-there ns b e)
 
-pub held-in : (o : Option (Option Source)) (rows : Bag) → Held o rows → rows ≡ rows_in o
+pub held-in : (o : Option (Option Operand)) (rows : Bag) → Held o rows → rows ≡ rows_in o
 held-in None rows h = absurd h
 held-in (Some None) rows h = absurd h
 held-in (Some (Some s)) rows h = h
 
-pub none-in : (o : Option (Option Source)) → is_held o ≡ false → [] ≡ rows_in o
+pub none-in : (o : Option (Option Operand)) → is_held o ≡ false → [] ≡ rows_in o
 none-in None h = refl
 none-in (Some None) h = refl
 none-in (Some (Some s)) h = absurd (let z : ⊥ = cc in z)
 
-stored-longer : (memo : List (Option Source)) (o : Option Source) (ns : List Node) (b : ℕ) → length ns ≤ length memo → rows_stored memo ns b ≡ rows_stored (memo ++ o ∷ []) ns b
+stored-longer : (memo : List (Option Operand)) (o : Option Operand) (ns : List Node) (b : ℕ) → length ns ≤ length memo → rows_stored memo ns b ≡ rows_stored (memo ++ o ∷ []) ns b
 stored-longer memo o [] b l = refl
 stored-longer memo o (n ∷ ns) b l =
     ap₂ (λ (x y : Bag). cond (n.id == b) x y) (ap rows_in (sym (get-before memo o (length ns) (omega (arith, l))))) (stored-longer memo o ns b (omega (arith, l)))
@@ -217,7 +217,7 @@ plan-same n rs rows others es hs same h = record {
   indexed = λ i r x inside at is. subst (λ (b : Bag). FitsKeys (rejects es (i + 1)) r.id b x) (same r.over) (h.indexed i r x inside at is);
 }
 
-plan-longer : (memo : List (Option Source)) (o : Option Source) (n : Node) (ns : List Node) (p : Option (Option Plan)) → length ns ≤ length memo → PlanFits memo n ns p → PlanFits (memo ++ o ∷ []) n ns p
+plan-longer : (memo : List (Option Operand)) (o : Option Operand) (n : Node) (ns : List Node) (p : Option (Option Plan)) → length ns ≤ length memo → PlanFits memo n ns p → PlanFits (memo ++ o ∷ []) n ns p
 plan-longer memo o n ns None l h = tt
 plan-longer memo o n ns (Some None) l h = tt
 plan-longer memo o n ns (Some (Some p)) l h =
@@ -232,7 +232,7 @@ plan-longer memo o n ns (Some (Some p)) l h =
       right = λ k d inside. λ q within at. subst (λ (b : Bag). Hashes (rejects_on n) q.id b (get_or p.right.items k d)) (same q.over) (h.right k d inside q within at);
     }
 
-plans-longer : (memo : List (Option Source)) (o : Option Source) (plans : List (Option Plan)) (p : Option Plan) (ns : List Node) → length ns ≤ length memo → length ns ≤ length plans → AllPlanned memo plans ns → AllPlanned (memo ++ o ∷ []) (plans ++ p ∷ []) ns
+plans-longer : (memo : List (Option Operand)) (o : Option Operand) (plans : List (Option Plan)) (p : Option Plan) (ns : List Node) → length ns ≤ length memo → length ns ≤ length plans → AllPlanned memo plans ns → AllPlanned (memo ++ o ∷ []) (plans ++ p ∷ []) ns
 plans-longer memo o plans p [] l k h = tt
 plans-longer memo o plans p (n ∷ ns) l k h = (
   subst (PlanFits (memo ++ o ∷ []) n ns) (sym (get-before plans p (length ns) (omega (arith, k)))) (plan-longer memo o n ns (slice_get plans (length ns)) (omega (arith, l)) h.0),
@@ -240,7 +240,7 @@ plans-longer memo o plans p (n ∷ ns) l k h = (
 )
 
 -- of one box more
-pub plans-more : (memo : List (Option Source)) (o : Option Source) (plans : List (Option Plan)) (p : Option Plan) (ns : List Node) (i j : ℕ) (n : Node) → j ≡ i + 1 → i < length ns → n ≡ get_or ns i n → length memo ≡ length (drop j ns) → length plans ≡ length (drop j ns)
+pub plans-more : (memo : List (Option Operand)) (o : Option Operand) (plans : List (Option Plan)) (p : Option Plan) (ns : List Node) (i j : ℕ) (n : Node) → j ≡ i + 1 → i < length ns → n ≡ get_or ns i n → length memo ≡ length (drop j ns) → length plans ≡ length (drop j ns)
     → PlanFits memo n (drop j ns) (Some p) → AllPlanned memo plans (drop j ns) → AllPlanned (memo ++ o ∷ []) (plans ++ p ∷ []) (drop i ns)
 plans-more memo o plans p ns i j n e l at long many fits h =
     subst (AllPlanned (memo ++ o ∷ []) (plans ++ p ∷ [])) (sym (here ns i j n e l at)) (
@@ -254,5 +254,5 @@ get-past (x ∷ xs) zero e = absurd (omega (arith, e))
 get-past (x ∷ xs) (suc i) e = get-past xs i (omega (arith, e))
 
 -- none is made yet of the box before them
-pub plans-first : (memo : List (Option Source)) (plans : List (Option Plan)) (n : Node) (ns : List Node) → length plans ≡ length ns → AllPlanned memo plans ns → AllPlanned memo plans (n ∷ ns)
+pub plans-first : (memo : List (Option Operand)) (plans : List (Option Plan)) (n : Node) (ns : List Node) → length plans ≡ length ns → AllPlanned memo plans ns → AllPlanned memo plans (n ∷ ns)
 plans-first memo plans n ns many h = (subst (PlanFits memo n ns) (sym (get-past plans (length ns) (sym many))) tt, h)

@@ -25,7 +25,7 @@ use Rattle.box_exec.specs.Taken.{Match, in_turn, is_taken, matches, takes, ways}
 use Rattle.box_exec.specs.Takings.{Seeks, keys_by, order_by}
 use Rattle.box_exec.specs.declared.lookup.Keyed.{Keyed}
 use Rattle.box_exec.specs.declared.order.Order.{Order}
-use Rattle.box_exec.specs.declared.source.Source.{Source}
+use Rattle.row_bag.specs.declared.operand.Operand.{Operand}
 use Rattle.box_exec.specs.declared.under.Loop.{Loop}
 use Rattle.box_exec.specs.declared.under.Under.{Under}
 use Rattle.box_exec.proofs.Evaluations.{each_row, keeps-drop}
@@ -35,13 +35,13 @@ use Rattle.box_exec.proofs.Tails.{overs-here}
 
 -- ---- what is open
 
-pub held-is : (o : Option (Option Source)) (rows : Bag) → Held o rows → is_held o ≡ true
+pub held-is : (o : Option (Option Operand)) (rows : Bag) → Held o rows → is_held o ≡ true
 held-is None rows h = absurd h
 held-is (Some None) rows h = absurd h
 held-is (Some (Some s)) rows h = refl
 
 -- whether the rows of a box that stands among these are held
-kept-as-held : (memo : List (Option Source)) (ns behind : List Node) (b i : ℕ) → position (is_box b) ns ≡ Some i → behind ≡ drop (i + 1) ns → (kept : ℕ → Bool) → Keeps memo kept ns → is_held (slice_get memo (length behind)) ≡ kept b
+kept-as-held : (memo : List (Option Operand)) (ns behind : List Node) (b i : ℕ) → position (is_box b) ns ≡ Some i → behind ≡ drop (i + 1) ns → (kept : ℕ → Bool) → Keeps memo kept ns → is_held (slice_get memo (length behind)) ≡ kept b
 kept-as-held memo [] behind b i e is kept keeps = absurd (let z : ⊥ = cc in z)
 kept-as-held memo (m ∷ ms) behind b i e is kept keeps =
     let ns : List Node = m ∷ ms in
@@ -50,17 +50,17 @@ kept-as-held memo (m ∷ ms) behind b i e is kept keeps =
     let here : Keeps memo kept (n ∷ drop (i + 1) ns) = subst (Keeps memo kept) (from ns i m h.0) (keeps-drop memo kept ns i keeps) in
     ap (λ (xs : List Node). is_held (slice_get memo (length xs))) is ∙ here.0 ∙ ap kept (eqb-true n.id b h.1)
 
-pub held-opens : (memo : List (Option Source)) (ns behind : List Node) (b i : ℕ) → position (is_box b) ns ≡ Some i → behind ≡ drop (i + 1) ns → is_held (slice_get memo (length behind)) ≡ true → (kept : ℕ → Bool) → Keeps memo kept ns → false ≡ not (kept b)
+pub held-opens : (memo : List (Option Operand)) (ns behind : List Node) (b i : ℕ) → position (is_box b) ns ≡ Some i → behind ≡ drop (i + 1) ns → is_held (slice_get memo (length behind)) ≡ true → (kept : ℕ → Bool) → Keeps memo kept ns → false ≡ not (kept b)
 held-opens memo ns behind b i e is held kept keeps = ap not (sym held ∙ kept-as-held memo ns behind b i e is kept keeps)
 
-pub unheld-opens : (memo : List (Option Source)) (ns behind : List Node) (b i : ℕ) → position (is_box b) ns ≡ Some i → behind ≡ drop (i + 1) ns → is_held (slice_get memo (length behind)) ≡ false → (kept : ℕ → Bool) → Keeps memo kept ns → true ≡ not (kept b)
+pub unheld-opens : (memo : List (Option Operand)) (ns behind : List Node) (b i : ℕ) → position (is_box b) ns ≡ Some i → behind ≡ drop (i + 1) ns → is_held (slice_get memo (length behind)) ≡ false → (kept : ℕ → Bool) → Keeps memo kept ns → true ≡ not (kept b)
 unheld-opens memo ns behind b i e is held kept keeps = ap not (sym held ∙ kept-as-held memo ns behind b i e is kept keeps)
 
-pub absent-opens : (memo : List (Option Source)) (ns : List Node) (b : ℕ) (u : Under) → position (is_box b) ns ≡ None → OpensAs memo ns b u
+pub absent-opens : (memo : List (Option Operand)) (ns : List Node) (b : ℕ) (u : Under) → position (is_box b) ns ≡ None → OpensAs memo ns b u
 absent-opens memo ns b u e kept keeps there = absurd (clash (has_box ns b) there (not-there ns b e))
 
 -- something under these quantifiers is open where they range over a box that isn't kept
-pub any-open : (memo : List (Option Source)) (below : List Node) (kept : ℕ → Bool) (ls : List Loop) → Keeps memo kept below → All (λ l. OpensAs memo below l.range.over l.under) ls → ((r : OwnedQuant) → In r (map (λ (l : Loop). l.range) ls) → has_box below r.over ≡ true)
+pub any-open : (memo : List (Option Operand)) (below : List Node) (kept : ℕ → Bool) (ls : List Loop) → Keeps memo kept below → All (λ l. OpensAs memo below l.range.over l.under) ls → ((r : OwnedQuant) → In r (map (λ (l : Loop). l.range) ls) → has_box below r.over ≡ true)
     → list_any (λ (l : Loop). is_open l.under) ls ≡ not (list_all (λ (r : OwnedQuant). kept r.over) (map (λ (l : Loop). l.range) ls))
 any-open memo below kept [] keeps opens there = refl
 any-open memo below kept (l ∷ ls) keeps opens there =
@@ -81,7 +81,7 @@ not-false true h = refl
 not-false false h = absurd (let z : ⊥ = cc in z)
 
 -- where nothing under these is open, nothing is under others over the same boxes
-pub still-shut : (memo : List (Option Source)) (below : List Node) (kept : ℕ → Bool) (ls ms : List Loop) → Keeps memo kept below → All (λ l. OpensAs memo below l.range.over l.under) ls → All (λ l. OpensAs memo below l.range.over l.under) ms
+pub still-shut : (memo : List (Option Operand)) (below : List Node) (kept : ℕ → Bool) (ls ms : List Loop) → Keeps memo kept below → All (λ l. OpensAs memo below l.range.over l.under) ls → All (λ l. OpensAs memo below l.range.over l.under) ms
     → ((r : OwnedQuant) → In r (map (λ (l : Loop). l.range) ls) → has_box below r.over ≡ true) → ((r : OwnedQuant) → In r (map (λ (l : Loop). l.range) ms) → In r (map (λ (l : Loop). l.range) ls))
     → list_any (λ (l : Loop). is_open l.under) ls ≡ false → list_any (λ (l : Loop). is_open l.under) ms ≡ false
 still-shut memo below kept ls [] keeps opens others there among shut = refl
@@ -101,7 +101,7 @@ pub keys-some : (n : Node) (ks : List (Option Keyed)) (os : List Order) → 0 < 
 keys-some n ks [] l all = absurd (omega (arith, l))
 keys-some n ks (o ∷ os) l all = all zero o (omega arith)
 
-module _ (n : Node) (memo : List (Option Source)) (below : List Node) (kept : ℕ → Bool) (ls : List Loop) (ks : List (Option Keyed)) (os : List Order) (ranged : map (λ (l : Loop). l.range) ls ≡ n.quants) (keeps : Keeps memo kept below) (ordered : Ordered (n ∷ below))
+module _ (n : Node) (memo : List (Option Operand)) (below : List Node) (kept : ℕ → Bool) (ls : List Loop) (ks : List (Option Keyed)) (os : List Order) (ranged : map (λ (l : Loop). l.range) ls ≡ n.quants) (keeps : Keeps memo kept below) (ordered : Ordered (n ∷ below))
     (opens : All (λ l. OpensAs memo below l.range.over l.under) ls) where
   abbrev opened : Bool
   opened = list_any (λ (l : Loop). is_open l.under) ls

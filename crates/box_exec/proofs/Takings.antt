@@ -16,7 +16,7 @@ use Rattle.box_exec.specs.Takings.{AllSeek, asked_takings, keys_by, order_by, ta
 use Rattle.box_exec.specs.declared.lookup.Keyed.{Keyed}
 use Rattle.box_exec.specs.declared.order.Order.{Order}
 use Rattle.box_exec.specs.declared.plan.Plan.{Plan}
-use Rattle.box_exec.specs.declared.source.Source.{Source}
+use Rattle.row_bag.specs.declared.operand.Operand.{Operand}
 use Rattle.box_exec.proofs.Evaluations.{each_row, keeps-drop}
 use Rattle.box_exec.proofs.Loops.{from}
 
@@ -57,7 +57,7 @@ takings-at tables kept ns b i n env e at =
     ∙ ap (λ (k : ℕ). taken_by kept n.parts.kind n (bag_in tables (drop k ns)) (asked_takings tables kept (drop k ns)) env) (sym (add-one i))
 
 -- a box without kept rows takes what its evaluation takes
-pub takes-under : (tables : List Table) (memo : List (Option Source)) (ns : List Node) (b i : ℕ) (n : Node) → position (is_box b) ns ≡ Some i → n ≡ get_or ns i n → is_held (slice_get memo (length (drop (i + 1) ns))) ≡ false
+pub takes-under : (tables : List Table) (memo : List (Option Operand)) (ns : List Node) (b i : ℕ) (n : Node) → position (is_box b) ns ≡ Some i → n ≡ get_or ns i n → is_held (slice_get memo (length (drop (i + 1) ns))) ≡ false
     → (kept : ℕ → Bool) → Keeps memo kept ns → (env : Environment) → asked_takings tables kept ns b env ≡ taken_by kept n.parts.kind n (bag_in tables (drop (i + 1) ns)) (asked_takings tables kept (drop (i + 1) ns)) env
 takes-under tables memo ns b i n e at unheld kept keeps env =
     let h = position-Some (is_box b) ns i n e in

@@ -13,7 +13,7 @@ use Rattle.box_exec.specs.declared.lookup.Hashed.{Hashed}
 use Rattle.box_exec.specs.declared.lookup.Keyed.{Keyed}
 use Rattle.box_exec.specs.declared.order.Order.{Order}
 use Rattle.box_exec.specs.declared.plan.Plan.{Plan}
-use Rattle.box_exec.specs.declared.source.Source.{Source}
+use Rattle.row_bag.specs.declared.operand.Operand.{Operand}
 use Rattle.box_exec.specs.declared.under.Loop.{Loop}
 use Rattle.box_exec.specs.declared.under.Under.{Under}
 use Rattle.box_exec.specs.declared.under.Under.TheVariants.{Kept, Open, Nothing}
@@ -27,13 +27,13 @@ rows_kept (Open n behind) = []
 rows_kept Nothing = []
 
 -- the rows of an entry, if there are any
-abbrev pub rows_in : Option (Option Source) → Bag
+abbrev pub rows_in : Option (Option Operand) → Bag
 rows_in None = []
 rows_in (Some None) = []
 rows_in (Some (Some s)) = held s
 
 -- the rows that are kept of a box among these
-abbrev pub rows_stored : List (Option Source) → List Node → ℕ → Bag
+abbrev pub rows_stored : List (Option Operand) → List Node → ℕ → Bag
 rows_stored memo [] b = []
 rows_stored memo (n ∷ ns) b = if n.id == b then rows_in (slice_get memo (length ns)) else rows_stored memo ns b
 
@@ -79,12 +79,12 @@ pub record FitsPlan (n : Node) (rows : ℕ → Bag) (p : Plan) : Type 0 where
   pub right : All (λ h. RightIndexed n rows h) p.right.items
 
 -- the plan of a box, if there is one, is of the rows that are kept
-abbrev pub PlanFits : List (Option Source) → Node → List Node → Option (Option Plan) → Type 0
+abbrev pub PlanFits : List (Option Operand) → Node → List Node → Option (Option Plan) → Type 0
 PlanFits memo n ns None = ⊤
 PlanFits memo n ns (Some None) = ⊤
 PlanFits memo n ns (Some (Some p)) = FitsPlan n (rows_stored memo ns) p
 
 -- the plan at i is of the box with i boxes behind it
-abbrev pub AllPlanned : List (Option Source) → List (Option Plan) → List Node → Type 0
+abbrev pub AllPlanned : List (Option Operand) → List (Option Plan) → List Node → Type 0
 AllPlanned memo plans [] = ⊤
 AllPlanned memo plans (n ∷ ns) = PlanFits memo n ns (slice_get plans (length ns)) × AllPlanned memo plans ns

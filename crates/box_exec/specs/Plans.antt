@@ -18,7 +18,7 @@ use Rattle.box_exec.specs.Taken.{taken_by, ways}
 use Rattle.box_exec.specs.Takings.{AllSeek, Seeks, asked_takings}
 use Rattle.box_exec.specs.declared.boxes.At.{At}
 use Rattle.box_exec.specs.declared.plan.Plan.{Plan}
-use Rattle.box_exec.specs.declared.source.Source.{Source}
+use Rattle.row_bag.specs.declared.operand.Operand.{Operand}
 use Rattle.box_exec.specs.declared.under.Loop.{Loop}
 
 abbrev pub tables_of : At → List Table
@@ -107,7 +107,7 @@ abbrev pub SoughtAt : At → Type 0
 SoughtAt at = AllSought at.node.now (ranges at.loops.now) at.keyed.now
 
 -- a box is evaluated with keys, over boxes that are kept so, as it and those below it are planned
-pub record SeeksIn (indexed : Bool) (memo : List (Option Source)) (plans : List (Option Plan)) (kept : ℕ → Bool) (n : Node) (below : List Node) : Type 0 where
+pub record SeeksIn (indexed : Bool) (memo : List (Option Operand)) (plans : List (Option Plan)) (kept : ℕ → Bool) (n : Node) (below : List Node) : Type 0 where
   pub by_keys : indexed ≡ true
   pub keeps : Keeps memo kept below
   pub ordered : Ordered (n ∷ below)

@@ -19,7 +19,7 @@ use Rattle.box_exec.specs.Sources.{held, rows_held}
 use Rattle.box_exec.specs.Taken.{taken_by}
 use Rattle.box_exec.specs.Takings.{AllSeek, asked_takings}
 use Rattle.box_exec.specs.declared.plan.Plan.{Plan}
-use Rattle.box_exec.specs.declared.source.Source.{Source}
+use Rattle.row_bag.specs.declared.operand.Operand.{Operand}
 use Rattle.box_exec.specs.declared.source.Sub.{Sub}
 use Rattle.box_exec.specs.declared.under.Under.{Under}
 use Rattle.box_exec.specs.declared.under.Under.TheVariants.{Kept, Open, Nothing}
@@ -50,19 +50,19 @@ AllFit (n ∷ ns) = Fit n ns × AllFit ns
 -- ---- kept rows
 
 -- rows that are those of a box in every environment, if there are any
-abbrev pub Entry : List Table → Node → List Node → Option (Option Source) → Type 0
+abbrev pub Entry : List Table → Node → List Node → Option (Option Operand) → Type 0
 Entry tables n ns None = ⊤
 Entry tables n ns (Some None) = ⊤
 Entry tables n ns (Some (Some s)) = (env : Environment) → Alike (held s) (rows_of tables n (bag_in tables ns) env)
 
 -- these are the rows of an entry
-abbrev pub Held : Option (Option Source) → Bag → Type 0
+abbrev pub Held : Option (Option Operand) → Bag → Type 0
 Held None rows = ⊥
 Held (Some None) rows = ⊥
 Held (Some (Some s)) rows = rows ≡ held s
 
 -- these boxes are fit, and the entry at i is of the one with i boxes behind it
-abbrev pub Ready : List Table → List (Option Source) → List Node → Type 0
+abbrev pub Ready : List Table → List (Option Operand) → List Node → Type 0
 Ready tables memo [] = ⊤
 Ready tables memo (n ∷ ns) = Fit n ns × Entry tables n ns (slice_get memo (length ns)) × Ready tables memo ns
 
@@ -79,7 +79,7 @@ weight_under (Open n behind) = length n.now.quants + 8 + weight behind.now
 weight_under Nothing = 0
 
 -- the box of this number is n, over those behind it
-pub record IsOpen (tables : List Table) (memo : List (Option Source)) (below : List Node) (b : ℕ) (n : Node) (behind : List Node) : Type 0 where
+pub record IsOpen (tables : List Table) (memo : List (Option Operand)) (below : List Node) (b : ℕ) (n : Node) (behind : List Node) : Type 0 where
   pub bag : (env : Environment) → bag_in tables below b env ≡ rows_of tables n (bag_in tables behind) env
   pub fit : Fit n behind
   pub ready : Ready tables memo behind
@@ -91,7 +91,7 @@ pub record IsOpen (tables : List Table) (memo : List (Option Source)) (below : L
   pub ordered : Ordered below → Ordered (n ∷ behind)
 
 -- what stands under a quantifier over box b
-abbrev pub Stands : List Table → List (Option Source) → List Node → ℕ → Under → Type 0
+abbrev pub Stands : List Table → List (Option Operand) → List Node → ℕ → Under → Type 0
 Stands tables memo below b (Kept rows) = (env : Environment) → Alike rows.now (bag_in tables below b env)
 Stands tables memo below b (Open n behind) = IsOpen tables memo below b n.now behind.now
 Stands tables memo below b Nothing = (env : Environment) → bag_in tables below b env ≡ []
@@ -110,5 +110,5 @@ abbrev pub over_left : List Table → Node → List Node → List OwnedQuant →
 over_left tables n below rs env = over_each rs (quant_rows n (bag_in tables below)) (given_by (quant_rows n (bag_in tables below)) n) env
 
 -- rows that are those of a box in every environment
-abbrev pub Holds : List Table → Node → List Node → Source → Type 0
+abbrev pub Holds : List Table → Node → List Node → Operand → Type 0
 Holds tables n ns s = (env : Environment) → Alike (held s) (rows_of tables n (bag_in tables ns) env)

@@ -9,11 +9,11 @@ use Rattle.box_exec.specs.Costs.{Keeps}
 use Rattle.box_exec.specs.Early.{is_open}
 use Rattle.box_exec.specs.Taken.{matches}
 use Rattle.box_exec.specs.declared.lookup.Keyed.{Keyed}
-use Rattle.box_exec.specs.declared.source.Source.{Source}
+use Rattle.row_bag.specs.declared.operand.Operand.{Operand}
 use Rattle.box_exec.specs.declared.under.Under.{Under}
 
 -- a box that stands behind is open where its rows aren't kept
-abbrev pub OpensAs : List (Option Source) → List Node → ℕ → Under → Type 0
+abbrev pub OpensAs : List (Option Operand) → List Node → ℕ → Under → Type 0
 OpensAs memo below b under = (kept : ℕ → Bool) → Keeps memo kept below → has_box below b ≡ true → is_open under ≡ not (kept b)
 
 -- each F quantifier of a box, bound in this order, has all keys that the conditions ask for

@@ -29,11 +29,11 @@ use crate::joining::{Join, outer_joined};
 use crate::lookup::{Hashed, Keyed};
 use crate::order::Order;
 use crate::plan::{Plan, plan_of};
-use crate::source::{Source, Sub, SubRows, made, push_sub, unindexed};
+use crate::source::{Sub, SubRows, made, push_sub, unindexed};
 use crate::tally::{Tally, take};
 use crate::under::{Loop, Run, Under, loops, table_rows};
 use qgm_core::{BoxKind, Node, SetOperator};
-use row_bag::{Bag, copied_rows};
+use row_bag::{Bag, Operand, copied_rows};
 use row_index::{first_of, next_of};
 use shared_types::OutOfMemory;
 use sql_value::{Level, least};
@@ -169,7 +169,7 @@ fn rows_under<'a, L: Ledger>(
     env: &Bindings,
     steps: &mut Steps<L>,
     tally: &mut Tally,
-) -> Result<Source<'a>, OutOfMemory>
+) -> Result<Operand<'a>, OutOfMemory>
     requires stands { plan.StandsAt at.now l.now }
     requires plans { AllPlanned at.now.run.now.memo.now at.now.run.now.plans.now at.now.below.now }
     ensures rows { IfOk result (λ s. Alike (held s) (plan.family at.now l.now.range.over (env_of env.now))) }
@@ -179,9 +179,9 @@ fn rows_under<'a, L: Ledger>(
     ensures taken { (kept : ℕ → Bool) → plan.SeeksAt at.now kept → IfOk result (λ s. Between 0 (plan.asked_takings_at at.now kept l.now.range.over (env_of env.now)) tally.old.taken tally.new.taken) }
 {
     match l.under {
-        Under::Kept(rows) => Ok(Source::Borrowed(rows)),
+        Under::Kept(rows) => Ok(Operand::Borrowed(rows)),
         Under::Open(node, behind) => made(evaluated(at.run, node, behind, env, steps, tally)),
-        Under::Nothing => Ok(Source::Borrowed(&[])),
+        Under::Nothing => Ok(Operand::Borrowed(at.run.tables.none())),
     }
 }
 
@@ -243,12 +243,11 @@ fn each<'x, L: Ledger>(
     let mut c = first_of(&way);
     let mut i = c.place();
     while i < way.end {
-        let row = &rows[i];
-        let cells = row.cells.as_slice();
-        if is_taken(at, k, l, cells, env)? {
+        let row = rows.at(i);
+        if is_taken(at, k, l, row.cells, env)? {
             let level = least(level, row.level);
             take(level, &mut tally.taken);
-            let inside = Bindings::Row(l.range.id, cells, &*env);
+            let inside = Bindings::Row(l.range.id, row.cells, &*env);
             each(at, k + 1, level, &inside, out, steps, tally)?;
         }
         c = next_of(&way, c);

@@ -21,12 +21,11 @@ ghost use Rattle.row_bag.specs.declared.tables.Table.{Table};
 
 use crate::bindings::Bindings;
 use crate::boxes::{evaluated, step};
-use crate::source::Source;
 use crate::tally::Tally;
 use crate::under::{BoxOver, Run, behind, kept, place_of};
 use qgm_core::{BoxKind, Node, OwnedQuant};
 use qgm_terms::{Gx, QuantId};
-use row_bag::{Bag, Row, Tables};
+use row_bag::{Bag, Operand, Tables};
 use shared_types::OutOfMemory;
 use std::alloc::Global;
 use std::sync::ledger::Ledger;
@@ -81,14 +80,19 @@ fn handed_on(node: &Node) -> Option<OwnedQuant>
 }
 
 // Whether each row has so many cells.
-fn is_wide(rows: &[Row], width: usize) -> bool
+fn is_wide(rows: &Bag, width: usize) -> bool
     ensures { result ≡ is_wide width rows.now }
 {
-    rows.iter().all(|row| row.cells.len() == width)
+    for i in 0..rows.len() {
+        if rows.at(i).cells.len() != width {
+            return false;
+        }
+    }
+    true
 }
 
 // Where the rows that a box hands on are kept.
-fn handed_place(memo: &[Option<Source<'_>>], place: &BoxOver<'_>) -> Option<usize>
+fn handed_place(memo: &[Option<Operand<'_>>], place: &BoxOver<'_>) -> Option<usize>
     ensures held { IfSome result (λ k. is_held (slice_get memo.now k) ≡ true) }
     ensures entry { (tables : List Table) → Ready tables memo.now place.now.below.now → IfSome result (λ k. Entry tables place.now.node.now place.now.below.now (slice_get memo.now k)) }
 {
@@ -110,17 +114,17 @@ fn handed_place(memo: &[Option<Source<'_>>], place: &BoxOver<'_>) -> Option<usiz
 }
 
 // The rows at this place, if they are kept and stand elsewhere.
-fn borrowed<'t>(memo: &[Option<Source<'t>>], k: usize) -> Option<&'t [Row]>
+fn borrowed<'t>(memo: &[Option<Operand<'t>>], k: usize) -> Option<&'t Bag>
     ensures { IfSome result (λ rows. Held (slice_get memo.now k) rows.now) }
 {
     match memo.get(k) {
-        Some(Some(Source::Borrowed(rows))) => Some(*rows),
-        Some(Some(Source::Made(_))) | Some(None) | None => None,
+        Some(Some(Operand::Borrowed(rows))) => Some(*rows),
+        Some(Some(Operand::Made(_))) | Some(None) | None => None,
     }
 }
 
 /// The rows that a box hands on, if they are kept and stand elsewhere.
-pub(crate) fn lent<'t>(memo: &[Option<Source<'t>>], place: &BoxOver<'_>) -> Option<&'t [Row]>
+pub(crate) fn lent<'t>(memo: &[Option<Operand<'t>>], place: &BoxOver<'_>) -> Option<&'t Bag>
     ensures { (tables : List Table) → Ready tables memo.now place.now.below.now → IfSome result (λ rows. (env : Environment) → Alike rows.now (rows_of tables place.now.node.now (bag_in tables place.now.below.now) env)) }
 {
     let Some(k) = handed_place(memo, place) else {
@@ -130,7 +134,7 @@ pub(crate) fn lent<'t>(memo: &[Option<Source<'t>>], place: &BoxOver<'_>) -> Opti
 }
 
 // The rows that are kept at this place.
-fn taken<'t>(mut memo: Vec<Option<Source<'t>>>, k: usize) -> Source<'t>
+fn taken<'t>(mut memo: Vec<Option<Operand<'t>>>, k: usize) -> Operand<'t>
     requires { is_held (slice_get memo.items k) ≡ true }
     ensures { Held (slice_get memo.entry.items k) (held result) }
 {
@@ -145,7 +149,7 @@ fn taken<'t>(mut memo: Vec<Option<Source<'t>>>, k: usize) -> Source<'t>
 pub(crate) fn root_rows<L: Ledger>(
     alloc: Global,
     tables: &Tables,
-    memo: Vec<Option<Source<'_>>>,
+    memo: Vec<Option<Operand<'_>>>,
     root: &BoxOver<'_>,
     steps: &mut Steps<L>,
     tally: &mut Tally,

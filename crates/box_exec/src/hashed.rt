@@ -27,10 +27,10 @@ use crate::idle_index::IdleIndex;
 use crate::indexed_rows::IndexedRows;
 use crate::lookup::{Keyed, all_rows, keyed_way, takes as keys_take};
 use crate::order::Order;
-use crate::source::{Source, Sub, SubRows};
+use crate::source::{Sub, SubRows};
 use crate::tally::take;
 use crate::under::{Loop, kept_rows, loops};
-use row_bag::{Bag, Row};
+use row_bag::{Bag, Operand};
 use row_index::{Way, first_of, next_of};
 use shared_types::OutOfMemory;
 use sql_value::{Cell, Level, least};
@@ -60,7 +60,7 @@ fn way_of<'a>(at: &At<'a>, i: usize, l: &Loop<'_>, env: &Bindings) -> Result<Way
     requires at { l.now ≡ get_or at.now.loops.now i l.now }
     ensures { IfOk result (λ way. spec.LeadsAt at.now i l.now (env_of env.now) way) }
 {
-    let end = kept_rows(l).len();
+    let end = kept_rows(at.run.tables, l).len();
     match keyed_at(at.keyed, i) {
         Some(k) => keyed_way(at.run.alloc, k, end, env),
         None => Ok(all_rows(end)),
@@ -73,7 +73,7 @@ pub(crate) fn way_under<'a>(
     at: &At<'a>,
     i: usize,
     l: &Loop<'_>,
-    rows: &[Row],
+    rows: &Bag,
     env: &Bindings,
 ) -> Result<Way<'a>, OutOfMemory>
     requires planned { plan.Planned at.now }
@@ -139,17 +139,16 @@ fn over_kept<'x>(
     if !l.range.kind.is_f() {
         return over_kept(whole, place + 1, level, env, out, taken);
     }
-    let rows = kept_rows(l);
+    let rows = kept_rows(at.run.tables, l);
     let way = way_of(at, place, l, env)?;
     let mut c = first_of(&way);
     let mut i = c.place();
     while i < way.end {
-        let row = &rows[i];
-        let cells = row.cells.as_slice();
-        if is_taken(at, place, l, cells, env)? {
+        let row = rows.at(i);
+        if is_taken(at, place, l, row.cells, env)? {
             let level = least(level, row.level);
             take(level, taken);
-            let inside = Bindings::Row(l.range.id, cells, &*env);
+            let inside = Bindings::Row(l.range.id, row.cells, &*env);
             over_kept(whole, place + 1, level, &inside, out, taken)?;
         }
         c = next_of(&way, c);
@@ -173,9 +172,10 @@ pub(crate) fn sub_rows<'a>(at: &At<'a>, i: usize, l: &Loop<'a>) -> SubRows<'a>
     requires { spec.IdleUnder at.now.idle.now i l.now.under }
     ensures { rows_held result ≡ spec.rows_kept l.now.under }
 {
+    let rows = kept_rows(at.run.tables, l);
     match index_at(at.idle, i) {
-        Some(index) => SubRows::Indexed(IndexedRows::new(kept_rows(l), index)),
-        None => SubRows::Plain(Source::Borrowed(kept_rows(l))),
+        Some(index) => SubRows::Indexed(IndexedRows::new(rows, index)),
+        None => SubRows::Plain(Operand::Borrowed(rows)),
     }
 }
 

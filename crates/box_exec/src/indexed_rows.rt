@@ -14,7 +14,7 @@ use crate::lookup::all_rows;
 use crate::operand::standing;
 use qgm_core::{Gc, QuantId};
 use qgm_term_search::same_cond;
-use row_bag::Row;
+use row_bag::Bag;
 use row_index::{Way, feed};
 use shared_types::OutOfMemory;
 use std::alloc::Global;
@@ -24,7 +24,7 @@ use std::marker::Model;
 /// Rows of an E or A quantifier, and an index of them. Contracts see the rows.
 #[derive(Drop)]
 pub struct IndexedRows<'a> {
-    rows: &'a [Row],
+    rows: &'a Bag,
     index: &'a IdleIndex<'a>,
 }
 
@@ -61,7 +61,7 @@ fn hash_at(keys: &[Key<'_>], env: &Bindings) -> Option<u64>
 
 impl<'a> IndexedRows<'a> {
     /// Rows, and their index.
-    pub(crate) fn new(rows: &'a [Row], index: &'a IdleIndex<'a>) -> IndexedRows<'a>
+    pub(crate) fn new(rows: &'a Bag, index: &'a IdleIndex<'a>) -> IndexedRows<'a>
         requires { IsIdleIndex rows.now index.now }
         ensures { result ≡ rows.now }
     {
@@ -69,7 +69,7 @@ impl<'a> IndexedRows<'a> {
     }
 
     /// The rows.
-    pub(crate) fn rows(&self) -> &'a [Row]
+    pub(crate) fn rows(&self) -> &'a Bag
         ensures { result.now ≡ self.now }
     {
         self.rows

@@ -32,4 +32,4 @@ pub use evaluation::{hold, value};
 pub use execution::{execute, execute_plain, execute_taken};
 pub use indexed_rows::IndexedRows;
 pub use laws::execution_laws;
-pub use source::{Source, Sub, SubRows};
+pub use source::{Sub, SubRows};

@@ -16,9 +16,9 @@ ghost use Rattle.std.specs.Ordering.{is_eq};
 use crate::bindings::Bindings;
 use crate::evaluation::value;
 use crate::key::{Key, is_nowhere, is_plain};
-use crate::operand::{Operand, standing};
+use crate::operand::{OperandCell, standing};
 use qgm_core::{Gx, QuantId};
-use row_bag::Row;
+use row_bag::Bag;
 use row_index::{RowIndex, Way, feed, index_of};
 use shared_types::OutOfMemory;
 use sql_value::{Cell, cell_order};
@@ -40,12 +40,12 @@ pub(crate) struct Keyed<'a> {
 }
 
 // The cell of an expression that names no E, A or S quantifier.
-fn cell_of<'a>(alloc: Global, x: &Gx, env: &Bindings<'a>) -> Result<Operand<'a>, OutOfMemory>
+fn cell_of<'a>(alloc: Global, x: &Gx, env: &Bindings<'a>) -> Result<OperandCell<'a>, OutOfMemory>
     ensures { IfOk result (λ o. cell_held o ≡ other_of (term x.now) (env_of env.now)) }
 {
     match standing(x, env) {
-        Some(cell) => Ok(Operand::Borrowed(cell)),
-        None => Ok(Operand::Made(value(alloc, x, &[], env)?)),
+        Some(cell) => Ok(OperandCell::Borrowed(cell)),
+        None => Ok(OperandCell::Made(value(alloc, x, &[], env)?)),
     }
 }
 
@@ -85,13 +85,13 @@ fn row_hashes(
     alloc: Global,
     keys: &[Key<'_>],
     q: QuantId,
-    rows: &[Row],
+    rows: &Bag,
 ) -> Result<Vec<Option<u64>>, OutOfMemory>
     ensures { IfOk result (λ made. made.items ≡ spec.row_hashes q keys.now rows.now) }
 {
     let mut made = Vec::with_capacity(alloc, rows.len())?;
-    for row in rows {
-        made.push(row_hash(alloc, keys, q, row.cells.as_slice())?)?;
+    for i in 0..rows.len() {
+        made.push(row_hash(alloc, keys, q, rows.at(i).cells)?)?;
     }
     Ok(made)
 }
@@ -102,7 +102,7 @@ pub(crate) fn hashed_by<'a>(
     alloc: Global,
     keys: Vec<Key<'a>>,
     q: QuantId,
-    rows: &[Row],
+    rows: &Bag,
 ) -> Result<Option<Hashed<'a>>, OutOfMemory>
     ensures { (test : Environment → Bool) → All (λ k. spec.RejectsBy test q k) keys.entry.items → IfOk result (λ o. IfSome o (λ h. spec.Hashes test q rows.now h)) }
 {
@@ -120,7 +120,7 @@ fn index_if(
     alloc: Global,
     keys: &[Key<'_>],
     q: QuantId,
-    rows: &[Row],
+    rows: &Bag,
 ) -> Result<Option<RowIndex>, OutOfMemory>
     ensures { IfOk result (λ o. IfSome o (λ ix. Indexes (spec.row_hashes q keys.now rows.now) ix)) }
 {
@@ -138,7 +138,7 @@ pub(crate) fn keyed_by<'a>(
     alloc: Global,
     keys: Vec<Key<'a>>,
     q: QuantId,
-    rows: &[Row],
+    rows: &Bag,
 ) -> Result<Option<Keyed<'a>>, OutOfMemory>
     ensures fits { (test : Environment → Bool) → All (λ k. spec.RejectsBy test q k) keys.entry.items → IfOk result (λ o. IfSome o (λ k. spec.FitsKeys test q rows.now k)) }
     ensures made { IfOk result (λ o. asked.keys_made o ≡ asked.shown_keys keys.entry.items) }

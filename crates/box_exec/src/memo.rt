@@ -20,11 +20,10 @@ use crate::bindings::Bindings;
 use crate::boxes::{evaluated, step};
 use crate::handed_on::lent;
 use crate::plan::{Plan, plan_of};
-use crate::source::Source;
 use crate::tally::Tally;
 use crate::under::{BoxOver, Run, behind, loops, table_rows};
 use qgm_core::{BoxId, BoxKind, Marks, Node, QuantId};
-use row_bag::Tables;
+use row_bag::{Operand, Tables};
 use shared_types::OutOfMemory;
 use std::alloc::Global;
 use std::sync::ledger::Ledger;
@@ -35,11 +34,11 @@ use step_count::Steps;
 fn entry<'t, L: Ledger>(
     alloc: Global,
     tables: &'t Tables,
-    memo: &[Option<Source<'t>>],
+    memo: &[Option<Operand<'t>>],
     place: &BoxOver<'_>,
     steps: &mut Steps<L>,
     tally: &mut Tally,
-) -> Result<Source<'t>, OutOfMemory>
+) -> Result<Operand<'t>, OutOfMemory>
     requires ready { Ready tables.now memo.now place.now.below.now }
     requires fit { Fit place.now.node.now place.now.below.now }
     requires closed { LooksNowhere place.now.node.now place.now.below.now }
@@ -52,12 +51,12 @@ fn entry<'t, L: Ledger>(
     match &place.node.parts.kind {
         BoxKind::Base(table) => {
             step(steps, tally);
-            Ok(Source::Borrowed(table_rows(tables, &table.name)))
+            Ok(Operand::Borrowed(table_rows(tables, &table.name)))
         }
         BoxKind::Select | BoxKind::Group(_) | BoxKind::SetOp(_, _) | BoxKind::OuterJoin => {
             if let Some(rows) = lent(memo, place) {
                 step(steps, tally);
-                return Ok(Source::Borrowed(rows));
+                return Ok(Operand::Borrowed(rows));
             }
             let run = Run {
                 alloc,
@@ -74,7 +73,7 @@ fn entry<'t, L: Ledger>(
                 steps,
                 tally,
             )?;
-            Ok(Source::Made(rows))
+            Ok(Operand::Made(rows))
         }
     }
 }
@@ -84,11 +83,11 @@ fn entry_if<'t, L: Ledger>(
     keep: bool,
     alloc: Global,
     tables: &'t Tables,
-    memo: &[Option<Source<'t>>],
+    memo: &[Option<Operand<'t>>],
     place: &BoxOver<'_>,
     steps: &mut Steps<L>,
     tally: &mut Tally,
-) -> Result<Option<Source<'t>>, OutOfMemory>
+) -> Result<Option<Operand<'t>>, OutOfMemory>
     requires ready { Ready tables.now memo.now place.now.below.now }
     requires fit { Fit place.now.node.now place.now.below.now }
     requires closed { keep ≡ true → LooksNowhere place.now.node.now place.now.below.now }
@@ -147,7 +146,7 @@ pub(crate) fn memo_of<'t, 'n, L: Ledger>(
     indexed: bool,
     steps: &mut Steps<L>,
     tally: &mut Tally,
-) -> Result<(Vec<Option<Source<'t>>>, Vec<Option<Plan<'n>>>), OutOfMemory>
+) -> Result<(Vec<Option<Operand<'t>>>, Vec<Option<Plan<'n>>>), OutOfMemory>
     requires { AllFit nodes.now }
     ensures ready { IfOk result (λ made. Ready tables.now made.0.items nodes.now) }
     ensures plans { (n : Node) → IfOk result (λ made. AllPlanned made.0.items made.1.items (n ∷ nodes.now)) }

@@ -23,7 +23,7 @@ use crate::joining::hashed_right;
 use crate::key::{Key, key_in};
 use crate::lookup::{Hashed, Keyed, keyed_by};
 use crate::order::{Order, are_same, in_turn};
-use crate::under::{Loop, Run, kept_rows, loops};
+use crate::under::{Loop, Run, Under, kept_rows, loops};
 use qgm_core::{BoxKind, Node, QuantId};
 use shared_types::OutOfMemory;
 use std::alloc::Global;
@@ -65,7 +65,7 @@ fn keys_of<'a>(
 // The keys of the quantifier before a place, if it binds rows, and an index of these, if it is asked for.
 fn keyed_if<'a>(
     several: bool,
-    alloc: Global,
+    run: &Run<'_>,
     early: &[Early<'a>],
     place: usize,
     l: &Loop<'_>,
@@ -76,20 +76,31 @@ fn keyed_if<'a>(
     if !l.range.kind.is_f() {
         return Ok(None);
     }
-    let keys = keys_of(alloc, early, place, l.range.id)?;
+    let keys = keys_of(run.alloc, early, place, l.range.id)?;
     let indexed = several && !is_open(l.under);
-    keyed_by(indexed, alloc, keys, l.range.id, kept_rows(l))
+    keyed_by(
+        indexed,
+        run.alloc,
+        keys,
+        l.range.id,
+        kept_rows(run.tables, l),
+    )
 }
 
 // Whether a quantifier may bind several rows.
 fn may_bind_several(l: &Loop<'_>) -> bool {
-    l.range.kind.is_f() && (is_open(l.under) || kept_rows(l).len() > 1)
+    let several = match l.under {
+        Under::Kept(rows) => rows.len() > 1,
+        Under::Open(_, _) => true,
+        Under::Nothing => false,
+    };
+    l.range.kind.is_f() && several
 }
 
 // The keys of each F quantifier of a box. Of one that stands behind several rows of others there is an index; in
 // a box that is evaluated again and again, of each.
 fn all_keyed<'a>(
-    alloc: Global,
+    run: &Run<'_>,
     early: &[Early<'a>],
     loops: &[Loop<'_>],
     indexed: bool,
@@ -99,13 +110,13 @@ fn all_keyed<'a>(
     ensures asked { indexed ≡ true → IfOk result (λ made. asked.AllAsked early.now loops.now made.items) }
 {
     if !indexed {
-        return Ok(Vec::new(alloc));
+        return Ok(Vec::new(run.alloc));
     }
-    let mut made = Vec::with_capacity(alloc, loops.len())?;
+    let mut made = Vec::with_capacity(run.alloc, loops.len())?;
     let mut several = again;
     for i in 0..loops.len() {
         let l = &loops[i];
-        let keyed = keyed_if(several, alloc, early, i + 1, l)?;
+        let keyed = keyed_if(several, run, early, i + 1, l)?;
         made.push(keyed)?;
         several = several || may_bind_several(l);
     }
@@ -115,7 +126,7 @@ fn all_keyed<'a>(
 // The index of the rows of an E or A quantifier, if it is asked for and there can be one.
 fn idle_if<'a>(
     wanted: bool,
-    alloc: Global,
+    run: &Run<'_>,
     node: &'a Node,
     l: &Loop<'_>,
 ) -> Result<Option<IdleIndex<'a>>, OutOfMemory>
@@ -125,7 +136,7 @@ fn idle_if<'a>(
         return Ok(None);
     }
     let list = node.parts.conds.as_slice();
-    indexed_in(alloc, list, l.range.id, kept_rows(l))
+    indexed_in(run.alloc, list, l.range.id, kept_rows(run.tables, l))
 }
 
 // The index of the rows of each E and A quantifier of a select, where several combinations of rows of the
@@ -145,7 +156,7 @@ fn all_idle<'a>(
     let several = again || over.iter().any(|l| may_bind_several(l));
     for i in 0..over.len() {
         let l = &over[i];
-        let index = idle_if(several && !l.range.kind.is_f(), run.alloc, node, l)?;
+        let index = idle_if(several && !l.range.kind.is_f(), run, node, l)?;
         made.push(index)?;
     }
     Ok(made)
@@ -175,7 +186,7 @@ fn right_of<'a>(
     if !again || !run.indexed || !is_outer_join(&node.parts.kind) {
         return Ok(Vec::new(run.alloc));
     }
-    match hashed_right(run.alloc, node, q.range.id, kept_rows(q))? {
+    match hashed_right(run.alloc, node, q.range.id, kept_rows(run.tables, q))? {
         Some(h) => one(run.alloc, h),
         None => Ok(Vec::new(run.alloc)),
     }
@@ -213,7 +224,7 @@ fn orders_of<'a>(
     }
     let loops = loops(run, &ranges, below)?;
     let early = early_conds(run.alloc, node, &ranges)?;
-    let keyed = all_keyed(run.alloc, &early, &loops, run.indexed, again)?;
+    let keyed = all_keyed(run, &early, &loops, run.indexed, again)?;
     made.push(Order {
         ranges,
         early,
@@ -250,7 +261,7 @@ pub(crate) fn plan_of<'a>(
         });
     }
     let early = early_conds(run.alloc, node, node.quants.as_slice())?;
-    let keyed = all_keyed(run.alloc, &early, over, run.indexed, again)?;
+    let keyed = all_keyed(run, &early, over, run.indexed, again)?;
     Ok(Plan {
         early,
         keyed,
