@@ -1,4 +1,4 @@
-use Rattle.std.proofs.Common.{ℕ, All, Bool, Some, cond, slice_get, append-nil, ◌≡◌, ◌≤◌, ◌<◌, ◌+◌, ◌++◌, true, false, List, length, drop, filter, get_or, take, sym, ap, ◌∙◌, subst, arith, rules}
+use Rattle.std.proofs.Common.{ℕ, All, Bool, Some, cond, slice_get, append-nil, ◌≡◌, ◌≤◌, ◌<◌, ◌+◌, ◌++◌, true, false, List, length, drop, filter, get_or, take, refl, sym, ap, ◌∙◌, subst, arith, rules}
 use Rattle.std.proofs.lemmas.Result.{IfOk-weaker, on_ok_weaker}
 use Rattle.std.specs.Result.{OnOk}
 use Rattle.row_bag.specs.Bags.{Alike, keep}
@@ -42,6 +42,8 @@ use Rattle.std.specs.Borrow.{Bor}
 use Rattle.box_exec.specs.Early.{rejects}
 use Rattle.row_bag.specs.Bags.{bind}
 use Rattle.row_bag.proofs.Agreement.{alike-same}
+use Rattle.row_bag.specs.RowRefs.{lent}
+use Rattle.row_bag.proofs.Places.{read-at}
 use Rattle.row_index.specs.Ways.{StandsFrom, place}
 use Rattle.row_index.proofs.Passed.{seen-again, seen-low}
 use Rattle.box_exec.proofs.Quantifiers.{bound-of, combined-rows, free-more, free-same, given-at, group-rows, left-bound, left-over, level-none, outer-rows, past-all, past-ranges, placed, range-at, range-past, range-within, stood, two-at}
@@ -103,7 +105,8 @@ each-loop-i-preserved g t c =
     let way = c.in_ok-way.way in
     let leads = c.in_ok-way.ensures in
     let i = c.loop-i.i in
-    let r = c.index-rows-i.result in
+    let r = lent c.at-row.result in
+    let is-at = read-at rows i r c.at-row.ensures in
     let level = c.args.level in
     let cursor = c.next_of-c.result in
     let f = λ (cells : List Cell). left_at at (k + 1) (bound l.range.id cells env) in
@@ -118,9 +121,8 @@ each-loop-i-preserved g t c =
     elim c.if-branch-2.branch [
       | each-then-branch-2+in_ok-each w ↦
           let new = w.each-then-branch-2.new.out in
-          let added : Alike new (c.loop-i.out ++ keep w.least-level.result (f r.cells)) =
-          subst (λ (cells : List Cell). Alike new (c.loop-i.out ++ keep w.least-level.result (f cells))) c.as_slice-cells.ensures w.in_ok-each.ensures.rows in
-          let done = each-more level rows i r f c.args.out.now c.loop-i.out new inside c.index-rows-i.is c.loop-i.invariant.rows
+          let added : Alike new (c.loop-i.out ++ keep w.least-level.result (f r.cells)) = w.in_ok-each.ensures.rows in
+          let done = each-more level rows i r f c.args.out.now c.loop-i.out new inside is-at c.loop-i.invariant.rows
           (subst (λ (x : Level). Alike new (c.loop-i.out ++ keep x (f r.cells))) w.least-level.ensures added) in
           let put : new ≡ c.if-branch-2.out = search rules in
           let put-steps : w.each-then-branch-2.new.steps ≡ c.if-branch-2.steps = search rules in
@@ -132,32 +134,32 @@ each-loop-i-preserved g t c =
                 subst (λ (n : ℕ). Between 0 (each_row (cost kept) (take n rows)) c.rows_under.new.steps c.if-branch-2.steps) (sym c.place-i-in-loop-i.ensures)
                 (subst (λ (u : ℕ). Between 0 (each_row (cost kept) (take (place cursor) rows)) c.rows_under.new.steps u) put-steps
                 (rows-past (cost kept) rows (i + 1) (place cursor) c.rows_under.new.steps w.each-then-branch-2.new.steps low
-                (rows-took (cost kept) rows i r level (cost kept c.as_slice-cells.result.now) c.rows_under.new.steps c.loop-i.steps w.each-then-branch-2.new.steps inside c.index-rows-i.is (ap (cost kept) c.as_slice-cells.ensures) (c.loop-i.invariant.took kept keeps)
-                (subst (λ (x : Level). Between 0 (at_level x (cost kept c.as_slice-cells.result.now)) c.loop-i.steps w.each-then-branch-2.new.steps) w.least-level.ensures (w.in_ok-each.ensures.took kept keeps)))));
+                (rows-took (cost kept) rows i r level (cost kept r.cells) c.rows_under.new.steps c.loop-i.steps w.each-then-branch-2.new.steps inside is-at refl (c.loop-i.invariant.took kept keeps)
+                (subst (λ (x : Level). Between 0 (at_level x (cost kept r.cells)) c.loop-i.steps w.each-then-branch-2.new.steps) w.least-level.ensures (w.in_ok-each.ensures.took kept keeps)))));
             taken = λ kept seeks sought.
                 let yes : c.in_ok-is_taken.field-0 ≡ true = search rules in
                 let bound_to : is_F l.range.kind ≡ true = search rules in
                 let row = row_takings at kept k l.range env in
                 let within = range-within at.loops.now k c.in-Some.ensures.lookup.3.0 in
                 let place-at = range-at at.loops.now k l c.in-Some.ensures.lookup.3.0 c.in-Some.ensures.lookup.1 in
-                let is = row-taken at c.requires.planned kept seeks k l c.in-Some.ensures.lookup.3.0 c.in-Some.ensures.lookup.1 sought bound_to env c.as_slice-cells.result.now c.in_ok-is_taken.field-0 yes c.in_ok-is_taken.ensures.taken in
-                let more : ℕ = under_rows (drop (k + 1) at.node.now.quants) at.node.now.quants (family at) (asked_takings_at at kept) (bound l.range.id c.as_slice-cells.result.now env) in
-                let counts : Between 0 (at_level w.least-level.result (row c.as_slice-cells.result.now)) c.loop-i.tally.taken w.each-then-branch-2.new.tally.taken =
-                row-counts-more kept at.node.now (ranges at.loops.now) (family at) k l.range within place-at more w.least-level.result env c.as_slice-cells.result.now c.loop-i.tally.taken w.take.new.taken w.each-then-branch-2.new.tally.taken is w.take.ensures.took (w.in_ok-each.ensures.taken kept seeks sought) in
+                let is = row-taken at c.requires.planned kept seeks k l c.in-Some.ensures.lookup.3.0 c.in-Some.ensures.lookup.1 sought bound_to env r.cells c.in_ok-is_taken.field-0 yes c.in_ok-is_taken.ensures.taken in
+                let more : ℕ = under_rows (drop (k + 1) at.node.now.quants) at.node.now.quants (family at) (asked_takings_at at kept) (bound l.range.id r.cells env) in
+                let counts : Between 0 (at_level w.least-level.result (row r.cells)) c.loop-i.tally.taken w.each-then-branch-2.new.tally.taken =
+                row-counts-more kept at.node.now (ranges at.loops.now) (family at) k l.range within place-at more w.least-level.result env r.cells c.loop-i.tally.taken w.take.new.taken w.each-then-branch-2.new.tally.taken is w.take.ensures.took (w.in_ok-each.ensures.taken kept seeks sought) in
                 let put-taken : w.each-then-branch-2.new.tally.taken ≡ c.if-branch-2.tally.taken = search rules in
                 subst (λ (n : ℕ). Between 0 (each_row row (take n rows)) c.rows_under.new.tally.taken c.if-branch-2.tally.taken) (sym c.place-i-in-loop-i.ensures)
                 (subst (λ (u : ℕ). Between 0 (each_row row (take (place cursor) rows)) c.rows_under.new.tally.taken u) put-taken
                 (rows-past row rows (i + 1) (place cursor) c.rows_under.new.tally.taken w.each-then-branch-2.new.tally.taken low
-                (rows-took row rows i r level (row c.as_slice-cells.result.now) c.rows_under.new.tally.taken c.loop-i.tally.taken w.each-then-branch-2.new.tally.taken inside c.index-rows-i.is (ap row c.as_slice-cells.ensures) (c.loop-i.invariant.taken kept seeks sought)
-                (subst (λ (x : Level). Between 0 (at_level x (row c.as_slice-cells.result.now)) c.loop-i.tally.taken w.each-then-branch-2.new.tally.taken) w.least-level.ensures counts))));
+                (rows-took row rows i r level (row r.cells) c.rows_under.new.tally.taken c.loop-i.tally.taken w.each-then-branch-2.new.tally.taken inside is-at refl (c.loop-i.invariant.taken kept seeks sought)
+                (subst (λ (x : Level). Between 0 (at_level x (row r.cells)) c.loop-i.tally.taken w.each-then-branch-2.new.tally.taken) w.least-level.ensures counts))));
             stands = seen-again way (i + 1) cursor leads.spans next stands;
             at = c.place-i-in-loop-i.ensures;
             counted = λ start h. search (rules, w.in_ok-each.ensures.counted start (c.loop-i.invariant.counted start h));
           }
       | each-else-branch-2 w ↦
           let missed : c.in_ok-is_taken.field-0 ≡ false = search rules in
-          let gone = rejected r.cells (subst (λ (cells : List Cell). rejects at.early.now (k + 1) (bound l.range.id cells env) ≡ true) c.as_slice-cells.ensures (c.in_ok-is_taken.ensures.passed missed)) in
-          let done = each-more level rows i r f c.args.out.now c.loop-i.out c.loop-i.out inside c.index-rows-i.is c.loop-i.invariant.rows (nothing-added (least level r.level) c.loop-i.out (f r.cells) gone) in
+          let gone = rejected r.cells (c.in_ok-is_taken.ensures.passed missed) in
+          let done = each-more level rows i r f c.args.out.now c.loop-i.out c.loop-i.out inside is-at c.loop-i.invariant.rows (nothing-added (least level r.level) c.loop-i.out (f r.cells) gone) in
           let put : c.loop-i.out ≡ c.if-branch-2.out = search rules in
           let put-steps : c.loop-i.steps ≡ c.if-branch-2.steps = search rules in
           record {

@@ -1,7 +1,9 @@
-use Rattle.std.proofs.Common.{ℕ, Bool, ap, ◌≡◌, ◌≤◌, ◌<◌, ◌+◌, ◌++◌, ◌∙◌, List, append-nil, arith, false, length, rules, subst, sym, take, true}
+use Rattle.std.proofs.Common.{ℕ, Bool, ap, ◌≡◌, ◌≤◌, ◌<◌, ◌+◌, ◌++◌, ◌∙◌, List, append-nil, arith, false, length, refl, rules, subst, sym, take, true}
 use Rattle.std.specs.Result.{OnOk}
 use Rattle.row_bag.specs.Bags.{Alike, bind, keep}
+use Rattle.row_bag.specs.RowRefs.{lent}
 use Rattle.row_bag.proofs.Agreement.{alike-same}
+use Rattle.row_bag.proofs.Places.{read-at}
 use Rattle.sql_value.specs.declared.cell.Cell.{Cell}
 use Rattle.sql_value.specs.declared.level.Level.{Level}
 use Rattle.qgm_core.specs.Kinds.{is_F}
@@ -78,7 +80,8 @@ loop-i-preserved t c =
     let rows = c.kept_rows-rows.result.now in
     let way = c.in_ok-way.way in
     let i = c.loop-i.i in
-    let r = c.index-rows-i.result in
+    let r = lent c.at-row.result in
+    let is-at = read-at rows i r c.at-row.ensures in
     let cursor = c.next_of-c.result in
     let level = c.args.level in
     let f = λ (cells : List Cell). left_at at (place-k + 1) (bound l.range.id cells env) in
@@ -94,9 +97,8 @@ loop-i-preserved t c =
     elim c.if-branch-2.branch [
       | then-branch-2+in_ok-over_kept w ↦
           let new = w.over_kept-then-branch-2.new.out in
-          let added : Alike new (c.loop-i.out ++ keep w.least-level.result (f r.cells)) =
-          subst (λ (cells : List Cell). Alike new (c.loop-i.out ++ keep w.least-level.result (f cells))) c.as_slice-cells.ensures w.in_ok-over_kept.ensures.rows in
-          let done = each-more level rows i r f c.args.out.now c.loop-i.out new inside c.index-rows-i.is c.loop-i.invariant.rows
+          let added : Alike new (c.loop-i.out ++ keep w.least-level.result (f r.cells)) = w.in_ok-over_kept.ensures.rows in
+          let done = each-more level rows i r f c.args.out.now c.loop-i.out new inside is-at c.loop-i.invariant.rows
           (subst (λ (x : Level). Alike new (c.loop-i.out ++ keep x (f r.cells))) w.least-level.ensures added) in
           let put : new ≡ c.if-branch-2.out = search rules in
           let put-taken : w.over_kept-then-branch-2.new.taken ≡ c.if-branch-2.taken = search rules in
@@ -111,21 +113,21 @@ loop-i-preserved t c =
                 let within = range-within at.loops.now place-k c.in-Some.ensures.lookup.3.0 in
                 let here = range-at at.loops.now place-k l c.in-Some.ensures.lookup.3.0 c.in-Some.ensures.lookup.1 in
                 let bound_to : is_F l.range.kind ≡ true = search rules in
-                let is = taken-here closed at.node.now (ranges at.loops.now) (family at) place-k l.range within here at.keyed.now env c.as_slice-cells.result.now sought bound_to found in
-                let counts : Between 0 (at_level w.least-level.result (cost closed c.as_slice-cells.result.now)) c.loop-i.taken w.over_kept-then-branch-2.new.taken =
-                row-counts closed at.node.now (ranges at.loops.now) (family at) place-k l.range within here w.least-level.result env c.as_slice-cells.result.now c.loop-i.taken w.take.new.taken w.over_kept-then-branch-2.new.taken is w.take.ensures.took (w.in_ok-over_kept.ensures.took closed sought) in
+                let is = taken-here closed at.node.now (ranges at.loops.now) (family at) place-k l.range within here at.keyed.now env r.cells sought bound_to found in
+                let counts : Between 0 (at_level w.least-level.result (cost closed r.cells)) c.loop-i.taken w.over_kept-then-branch-2.new.taken =
+                row-counts closed at.node.now (ranges at.loops.now) (family at) place-k l.range within here w.least-level.result env r.cells c.loop-i.taken w.take.new.taken w.over_kept-then-branch-2.new.taken is w.take.ensures.took (w.in_ok-over_kept.ensures.took closed sought) in
                 subst (λ (n : ℕ). Between 0 (each_row (cost closed) (take n rows)) c.args.taken.now c.if-branch-2.taken) (sym c.place-i-in-loop-i.ensures)
                 (subst (λ (u : ℕ). Between 0 (each_row (cost closed) (take (place cursor) rows)) c.args.taken.now u) put-taken
                 (rows-past (cost closed) rows (i + 1) (place cursor) c.args.taken.now w.over_kept-then-branch-2.new.taken low
-                (rows-took (cost closed) rows i r level (cost closed c.as_slice-cells.result.now) c.args.taken.now c.loop-i.taken w.over_kept-then-branch-2.new.taken inside c.index-rows-i.is (ap (cost closed) c.as_slice-cells.ensures) (c.loop-i.invariant.took closed sought)
-                (subst (λ (x : Level). Between 0 (at_level x (cost closed c.as_slice-cells.result.now)) c.loop-i.taken w.over_kept-then-branch-2.new.taken) w.least-level.ensures counts))));
+                (rows-took (cost closed) rows i r level (cost closed r.cells) c.args.taken.now c.loop-i.taken w.over_kept-then-branch-2.new.taken inside is-at refl (c.loop-i.invariant.took closed sought)
+                (subst (λ (x : Level). Between 0 (at_level x (cost closed r.cells)) c.loop-i.taken w.over_kept-then-branch-2.new.taken) w.least-level.ensures counts))));
             stands = seen-again way (i + 1) cursor leads.spans next stands;
             at = c.place-i-in-loop-i.ensures;
           }
       | else-branch-2 w ↦
           let missed : c.in_ok-is_taken.field-0 ≡ false = search rules in
-          let gone = rejected r.cells (subst (λ (cells : List Cell). rejects at.early.now (place-k + 1) (bound l.range.id cells env) ≡ true) c.as_slice-cells.ensures (c.in_ok-is_taken.ensures.passed missed)) in
-          let done = each-more level rows i r f c.args.out.now c.loop-i.out c.loop-i.out inside c.index-rows-i.is c.loop-i.invariant.rows (nothing-added (least level r.level) c.loop-i.out (f r.cells) gone) in
+          let gone = rejected r.cells (c.in_ok-is_taken.ensures.passed missed) in
+          let done = each-more level rows i r f c.args.out.now c.loop-i.out c.loop-i.out inside is-at c.loop-i.invariant.rows (nothing-added (least level r.level) c.loop-i.out (f r.cells) gone) in
           let put : c.loop-i.out ≡ c.if-branch-2.out = search rules in
           let put-taken : c.loop-i.taken ≡ c.if-branch-2.taken = search rules in
           record {

@@ -18,11 +18,11 @@ returns-in-Some c =
     let k = c.in-Some.k.now in
     let found : slice_get at.keyed.now i ≡ Some (Some k) = some-is (λ (x : Bor Keyed). slice_get at.keyed.now i ≡ Some (Some x.now)) c.keyed_at.result c.in-Some.k c.in-Some.is c.keyed_at.ensures.there in
     IfOk-weaker c.keyed_way.result _ _
-    (λ way f. f (rejects at.early.now (i + 1)) l.range.id (rows_kept l.under) (ap (λ (rs : Bag). length rs) c.kept_rows-end.ensures) (keyed-at at c.requires.bound i l c.requires.within c.requires.at k found))
+    (λ way f. f (rejects at.early.now (i + 1)) l.range.id (rows_kept l.under) (c.len-end.ensures ∙ ap (λ (rs : Bag). length rs) c.kept_rows.ensures) (keyed-at at c.requires.bound i l c.requires.within c.requires.at k found))
     c.keyed_way.ensures
 
 pub returns-in-None : goal.returns-in-None
 returns-in-None c =
     let at = c.args.at.now in
     let l = c.args.l.now in
-    leads-all (rejects at.early.now (c.args.i + 1)) l.range.id (rows_kept l.under) (env_of c.args.env.now) c.all_rows.result (c.all_rows.ensures.end ∙ ap (λ (rs : Bag). length rs) c.kept_rows-end.ensures) c.all_rows.ensures.all
+    leads-all (rejects at.early.now (c.args.i + 1)) l.range.id (rows_kept l.under) (env_of c.args.env.now) c.all_rows.result (c.all_rows.ensures.end ∙ c.len-end.ensures ∙ ap (λ (rs : Bag). length rs) c.kept_rows.ensures) c.all_rows.ensures.all
