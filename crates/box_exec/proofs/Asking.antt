@@ -1,7 +1,7 @@
 -- Keys that are found and indexed are the equalities that conditions are; what a way sees of them is taken.
-use Rattle.std.proofs.Common.{ℕ, suc, zero, ◌≡◌, ◌<◌, ◌≤◌, ◌+◌, ◌-◌, ◌++◌, ◌∷◌, ◌==◌, ◌||◌, ◌&&◌, not, cond, Bool, true, false, List, [], Option, Some, None, drop, filter, get_or, length, map, slice_get, refl, sym, ap, ap₂, subst, ◌∙◌, eqb-true, ◌⊎◌, inl, inr, arith}
+use Rattle.std.proofs.Common.{ℕ, suc, zero, ◌≡◌, ◌<◌, ◌≤◌, ◌+◌, ◌-◌, ◌++◌, ◌∷◌, ◌==◌, ◌||◌, ◌&&◌, not, cond, Bool, true, false, List, [], Option, Some, drop, filter, get_or, length, map, slice_get, refl, sym, ap, ap₂, subst, ◌∙◌, eqb-true, ◌⊎◌, inl, inr, arith}
 use Rattle.std.specs.List.{flat_map, list_all, list_any}
-use Rattle.std.proofs.lemmas.Bool.{and_parts, cases_Bool, cases_lt, eq-eqb, eqb-false, or_left, or_right}
+use Rattle.std.proofs.lemmas.Bool.{cases_Bool, cases_lt, eq-eqb, or_left, or_right}
 use Rattle.list_laws.specs.Lists.{In}
 use Rattle.list_laws.proofs.Booleans.{neither-left, neither-right}
 use Rattle.sql_value.specs.declared.cell.Cell.{Cell}
@@ -21,7 +21,7 @@ use Rattle.sql_value.specs.Cells.{cell_compare}
 use Rattle.std.specs.Ordering.{is_eq}
 use Rattle.std.proofs.lemmas.List.{append_assoc, get_or_default, map-append}
 use Rattle.box_exec.specs.Lookup.{RejectsBy, all_plain, any_nowhere, others_plain}
-use Rattle.box_exec.specs.Taken.{Match, is_other, is_own, matched, matched_by, matches, one_way, takes}
+use Rattle.box_exec.specs.Taken.{Match, is_other, is_own, matched, matches, one_way, takes}
 use Rattle.box_exec.specs.declared.early.Early.{Early}
 use Rattle.box_exec.specs.declared.key.Equality.{Equality}
 use Rattle.box_exec.specs.declared.key.Equality.TheVariants.{Same, Equal}

@@ -1,6 +1,6 @@
 -- Keys as they are found and indexed, against the equalities that conditions are.
-use Rattle.std.specs.Prelude.{ℕ, suc, ◌≡◌, ◌<◌, ◌+◌, ◌++◌, ◌==◌, ◌&&◌, ◌||◌, not, nat_lt, if◌then◌else◌, Bool, true, false, List, [], ◌∷◌, Option, Some, None, filter, get_or, length, map, slice_get, take}
-use Rattle.std.specs.List.{flat_map, list_all, list_any}
+use Rattle.std.specs.Prelude.{ℕ, suc, ◌≡◌, ◌<◌, ◌+◌, ◌++◌, ◌==◌, ◌&&◌, ◌||◌, not, if◌then◌else◌, Bool, true, List, [], ◌∷◌, Option, Some, None, filter, get_or, length, map, slice_get}
+use Rattle.std.specs.List.{flat_map, list_all}
 use Rattle.std.specs.Ordering.{is_eq}
 use Rattle.sql_value.specs.Cells.{cell_compare}
 use Rattle.sql_value.specs.declared.cell.Cell.{Cell}
@@ -10,14 +10,10 @@ use Rattle.qgm_core.specs.declared.owned.OwnedQuant.{OwnedQuant}
 use Rattle.qgm_meaning.specs.Values.{Environment}
 use Rattle.qgm_terms.specs.Shown.{cond, term}
 use Rattle.qgm_terms.specs.Terms.{Cond, Term}
-use Rattle.row_bag.specs.declared.row.Row.{Row}
-use Rattle.row_index.specs.Ways.{sees}
-use Rattle.row_index.specs.declared.ways.Way.{Way}
-use Rattle.box_exec.specs.Early.{is_open, names_any, reads_any}
+use Rattle.box_exec.specs.Early.{names_any, reads_any}
 use Rattle.box_exec.specs.Equalities.{other_of, own_of}
-use Rattle.box_exec.specs.Lasting.{rows_kept}
 use Rattle.box_exec.specs.Lookup.{all_plain, any_nowhere, others_plain}
-use Rattle.box_exec.specs.Taken.{Match, matched, one_way, takes}
+use Rattle.box_exec.specs.Taken.{Match, matched, one_way}
 use Rattle.box_exec.specs.declared.early.Early.{Early}
 use Rattle.box_exec.specs.declared.key.Equality.{Equality}
 use Rattle.box_exec.specs.declared.key.Key.{Key}

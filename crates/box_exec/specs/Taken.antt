@@ -1,5 +1,5 @@
 -- How many rows selects take for their F quantifiers: by look-ups in indexes, and by loops where there is none.
-use Rattle.std.specs.Prelude.{ℕ, suc, zero, ◌+◌, ◌==◌, ◌&&◌, ◌||◌, ◌++◌, not, if◌then◌else◌, Bool, true, false, List, [], ◌∷◌, Option, Some, None, drop, filter, length, take}
+use Rattle.std.specs.Prelude.{ℕ, suc, zero, ◌+◌, ◌==◌, ◌&&◌, ◌||◌, ◌++◌, not, if◌then◌else◌, Bool, true, List, [], ◌∷◌, Option, Some, None, drop, filter, length, take}
 use Rattle.std.specs.List.{flat_map, list_all, list_any, position, remove}
 use Rattle.std.specs.Ordering.{is_eq}
 use Rattle.row_bag.specs.Bags.{total}

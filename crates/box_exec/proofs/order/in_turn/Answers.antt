@@ -1,4 +1,4 @@
-use Rattle.std.proofs.Common.{ℕ, List, ◌≡◌, ◌<◌, ◌++◌, ◌∷◌, ◌∙◌, [], ap, append-nil, arith, length, refl, subst, sym}
+use Rattle.std.proofs.Common.{List, ◌≡◌, ◌<◌, ◌++◌, ◌∷◌, [], arith, length, refl, subst, sym}
 use Rattle.qgm_core.specs.declared.owned.OwnedQuant.{OwnedQuant}
 use Rattle.box_exec.specs.Lasting.{Reorders}
 use Rattle.box_exec.specs.Taken.{in_turn, next_place}

@@ -1,4 +1,4 @@
-use Rattle.std.proofs.Common.{ℕ, ◌≡◌, ◌<◌, ◌∙◌, arith, get_or, length, sym}
+use Rattle.std.proofs.Common.{◌∙◌, arith, get_or, sym}
 use Rattle.std.proofs.lemmas.List.{get_or_default}
 use Rattle.box_exec.specs.Taken.{has_key}
 use Rattle.box_exec.proofs.Turns.{first-place, no-place}
