@@ -1,7 +1,7 @@
 -- Keys that are found and indexed are the equalities that conditions are; what a way sees of them is taken.
-use Rattle.std.proofs.Common.{ℕ, suc, zero, ◌≡◌, ◌<◌, ◌≤◌, ◌+◌, ◌-◌, ◌++◌, ◌∷◌, ◌==◌, ◌||◌, ◌&&◌, not, cond, Bool, true, false, List, [], Option, Some, None, drop, filter, get_or, length, map, slice_get, refl, sym, ap, ap₂, subst, ◌∙◌, eqb-true, ◌⊎◌, inl, inr, arith}
+use Rattle.std.proofs.Common.{ℕ, suc, zero, ◌≡◌, ◌<◌, ◌≤◌, ◌+◌, ◌-◌, ◌++◌, ◌∷◌, ◌==◌, ◌||◌, ◌&&◌, not, cond, Bool, true, false, List, [], Option, Some, drop, filter, get_or, length, map, slice_get, refl, sym, ap, ap₂, subst, ◌∙◌, eqb-true, ◌⊎◌, inl, inr, arith}
 use Rattle.std.specs.List.{flat_map, list_all, list_any}
-use Rattle.std.proofs.lemmas.Bool.{and_parts, cases_Bool, cases_lt, eq-eqb, eqb-false, or_left, or_right}
+use Rattle.std.proofs.lemmas.Bool.{cases_Bool, cases_lt, eq-eqb, or_left, or_right}
 use Rattle.list_laws.specs.Lists.{In}
 use Rattle.list_laws.proofs.Booleans.{neither-left, neither-right}
 use Rattle.sql_value.specs.declared.cell.Cell.{Cell}
@@ -14,14 +14,14 @@ use Rattle.qgm_terms.specs.Terms.{Cond, Term, Sign, equal, unequal, below, at_mo
 use Rattle.qgm_terms.specs.Terms as terms
 use Rattle.qgm_terms.specs.Named.{columns_in}
 use Rattle.qgm_terms.specs.Wanted.{node_free, reads, reads_cond}
-use Rattle.box_exec.specs.Asked.{AllAsked, AreEarly, are_equal, is_found, keys_at, keys_in, keys_made, matched_at, place_in, placed_early, shown_early, shown_key, shown_keys, tested_at}
+use Rattle.box_exec.specs.Asked.{AllAsked, AreEarly, keys_at, keys_in, keys_made, matched_at, place_in, placed_early, shown_early, shown_key, shown_keys, tested_at}
 use Rattle.box_exec.specs.Early.{names_any, reads_any}
 use Rattle.box_exec.specs.Equalities.{is_nowhere, is_plain, other_of, own_of}
 use Rattle.sql_value.specs.Cells.{cell_compare}
 use Rattle.std.specs.Ordering.{is_eq}
 use Rattle.std.proofs.lemmas.List.{append_assoc, get_or_default, map-append}
-use Rattle.box_exec.specs.Lookup.{RejectsBy, all_plain, any_nowhere, others_plain}
-use Rattle.box_exec.specs.Taken.{Match, is_other, is_own, matched, matched_by, matches, one_way, takes}
+use Rattle.box_exec.specs.Lookup.{RejectsBy}
+use Rattle.box_exec.specs.Taken.{Match, is_other, is_own, matched, matches, one_way, passes, takes}
 use Rattle.box_exec.specs.declared.early.Early.{Early}
 use Rattle.box_exec.specs.declared.key.Equality.{Equality}
 use Rattle.box_exec.specs.declared.key.Equality.TheVariants.{Same, Equal}
@@ -30,55 +30,43 @@ use Rattle.box_exec.specs.declared.key.Key.{Key}
 use Rattle.box_exec.specs.declared.lookup.Keyed.{Keyed}
 use Rattle.box_exec.specs.declared.under.Loop.{Loop}
 use Rattle.qgm_core.specs.Kinds.{is_F}
-use Rattle.list_laws.proofs.Membership.{all-in, any-in}
 use Rattle.box_exec.proofs.Lasting.{loop-at}
-use Rattle.box_exec.proofs.Lookups.{differ-rejects, nowhere-plain}
+use Rattle.box_exec.proofs.Lookups.{nowhere-plain}
 use Rattle.box_exec.specs.Sought.{AllSought}
 
 -- ---- lists
 
-all-map : {X Y : Type 0} (f : X → Y) (p : Y → Bool) (xs : List X) → list_all p (map f xs) ≡ list_all (λ x. p (f x)) xs
-all-map f p [] = refl
-all-map f p (x ∷ xs) = ap (λ (b : Bool). p (f x) && b) (all-map f p xs)
-
-any-map : {X Y : Type 0} (f : X → Y) (p : Y → Bool) (xs : List X) → list_any p (map f xs) ≡ list_any (λ x. p (f x)) xs
+pub any-map : {X Y : Type 0} (f : X → Y) (p : Y → Bool) (xs : List X) → list_any p (map f xs) ≡ list_any (λ x. p (f x)) xs
 any-map f p [] = refl
 any-map f p (x ∷ xs) = ap (λ (b : Bool). p (f x) || b) (any-map f p xs)
 
--- ---- what a look-up takes
+-- ---- rows that are taken
 
-abbrev equal-cells : ℕ → Environment → List Cell → Match → Bool
-equal-cells q env cells m = is_eq (cell_compare (own_of q m.own cells) (other_of m.other env))
+-- of a row that a key doesn't let pass
+unpassed : (a b c d : Bool) → (not a || (not b && (not c || d))) ≡ false → (a ≡ true) × ((b ≡ true) ⊎ ((c ≡ true) × (d ≡ false)))
+unpassed true true c d h = (refl, inl refl)
+unpassed true false true true h = absurd (let z : ⊥ = cc in z)
+unpassed true false true false h = (refl, inr (refl, refl))
+unpassed true false false d h = absurd (let z : ⊥ = cc in z)
+unpassed false b c d h = absurd (let z : ⊥ = cc in z)
 
-pub takes-keys : (keys : List Key) (q : ℕ) (env : Environment) (cells : List Cell)
-    → takes (shown_keys keys) q env cells ≡ is_found q keys cells env
-takes-keys keys q env cells =
-    let a = all-map shown_key (λ (m : Match). is_plain m.by (own_of q m.own cells)) keys in
-    let b = any-map shown_key (λ (m : Match). is_nowhere m.by (other_of m.other env)) keys in
-    let c = all-map shown_key (λ (m : Match). is_plain m.by (other_of m.other env)) keys in
-    let d = all-map shown_key (λ (m : Match). equal-cells q env cells m) keys in
-    ap₂ (λ (x y : Bool). not x || y) a (ap₂ (λ (x y : Bool). not x && y) b (ap₂ (λ (x y : Bool). not x || y) c d))
-
-untaken-of : (a b c d : Bool) → (not a || (not b && (not c || d))) ≡ false → (a ≡ true) × ((b ≡ true) ⊎ ((c ≡ true) × (d ≡ false)))
-untaken-of true true c d h = (refl, inl refl)
-untaken-of true false true true h = absurd (let z : ⊥ = cc in z)
-untaken-of true false true false h = (refl, inr (refl, refl))
-untaken-of true false false d h = absurd (let z : ⊥ = cc in z)
-untaken-of false b c d h = absurd (let z : ⊥ = cc in z)
+unpassed-rejects : (test : Environment → Bool) (q : ℕ) (key : Key) (cells : List Cell) (env : Environment) → RejectsBy test q key → passes q env cells (shown_key key) ≡ false → test (bound q cells env) ≡ true
+unpassed-rejects test q key cells env rejects h =
+    let x = own_of q (term key.own.now) cells in
+    let y = other_of (term key.other.now) env in
+    let u = unpassed (is_plain key.by x) (is_nowhere key.by y) (is_plain key.by y) (is_eq (cell_compare x y)) h in
+    elim u.1 [
+      | inl none ↦ rejects cells env u.0 (nowhere-plain key.by y none) (or_left (is_nowhere key.by y) (not (is_eq (cell_compare x y))) none)
+      | inr other ↦ rejects cells env u.0 other.0 (or_right (is_nowhere key.by y) (not (is_eq (cell_compare x y))) (ap not other.1))
+    ]
 
 -- a row that isn't taken is rejected
-pub untaken-rejects : (test : Environment → Bool) (q : ℕ) (keys : List Key) (cells : List Cell) (env : Environment) → ((k : Key) → In k keys → RejectsBy test q k) → is_found q keys cells env ≡ false → test (bound q cells env) ≡ true
-untaken-rejects test q keys cells env rejects h =
-    let u = untaken-of (all_plain q keys cells) (any_nowhere keys env) (others_plain keys env) (are_equal q keys cells env) h in
-    elim u.1 [
-      | inl none ↦
-          (let x = any-in (λ (k : Key). is_nowhere k.by (other_of (term k.other.now) env)) keys none in
-          let key = x.0 in
-          let y = other_of (term key.other.now) env in
-          rejects key x.1.0 cells env (all-in (λ (k : Key). is_plain k.by (own_of q (term k.own.now) cells)) key keys u.0 x.1.0) (nowhere-plain key.by y x.1.1)
-          (or_left (is_nowhere key.by y) (not (is_eq (cell_compare (own_of q (term key.own.now) cells) y))) x.1.1))
-      | inr other ↦ differ-rejects test q keys cells env rejects u.0 other.0 other.1
-    ]
+pub untaken-rejects : (test : Environment → Bool) (q : ℕ) (keys : List Key) (cells : List Cell) (env : Environment) → ((k : Key) → In k keys → RejectsBy test q k) → takes (shown_keys keys) q env cells ≡ false → test (bound q cells env) ≡ true
+untaken-rejects test q [] cells env rejects h = absurd (let z : ⊥ = cc in z)
+untaken-rejects test q (key ∷ keys) cells env rejects h = elim (cases_Bool (passes q env cells (shown_key key))) [
+  | inl t ↦ untaken-rejects test q keys cells env (λ k i. rejects k (inr i)) (sym (ap (λ (b : Bool). b && takes (shown_keys keys) q env cells) t) ∙ h)
+  | inr f ↦ unpassed-rejects test q key cells env (rejects key (inl refl)) f
+]
 
 -- ---- keys at a place
 

@@ -1,7 +1,6 @@
 -- Rows found by hashes: those that are passed over give nothing.
-use Rattle.std.proofs.Common.{ℕ, suc, zero, ◌≡◌, ◌<◌, ◌≤◌, ◌+◌, ◌-◌, ◌++◌, ◌∷◌, ◌||◌, ◌&&◌, not, cond, All, Bool, true, false, List, [], Option, Some, None, get_or, length, map, option_map, take, refl, sym, ap, ap₂, subst, ◌∙◌, inl, inr, arith}
+use Rattle.std.proofs.Common.{ℕ, suc, zero, ◌≡◌, ◌<◌, ◌≤◌, ◌+◌, ◌-◌, ◌++◌, ◌∷◌, ◌||◌, not, cond, All, Bool, true, false, List, [], Option, Some, None, get_or, length, map, option_map, take, refl, sym, ap, ap₂, subst, ◌∙◌, inl, inr, arith}
 use Rattle.std.specs.Borrow.{Bor}
-use Rattle.std.specs.List.{list_all}
 use Rattle.std.specs.Ordering.{is_eq}
 use Rattle.std.specs.Prelude.{IfSome}
 use Rattle.std.proofs.lemmas.Bool.{and_parts, cases_Bool, cases_lt, eqb-false, or_left, or_right}
@@ -55,9 +54,6 @@ nowhere-plain Texts y h = absurd (let z : ⊥ = cc in z)
 unequal-apart : (b c : Bool) → c ≡ false → (b || not c) ≡ true
 unequal-apart b c e = or_right b (not c) (ap not e)
 
-abbrev are-equal : ℕ → List Key → List Cell → Environment → Bool
-are-equal q keys cells env = list_all (λ k. is_eq (cell_compare (own_of q (shown.term k.own.now) cells) (other_of (shown.term k.other.now) env))) keys
-
 -- of keys whose cells aren't all equal, one has cells that are apart
 differs : (q : ℕ) (keys : List Key) (cells : List Cell) (env : Environment) → all_plain q keys cells ≡ true → others_plain keys env ≡ true → (owns q keys cells ≡ others keys env → ⊥)
     → (key : Key)
@@ -77,20 +73,6 @@ differs q (key ∷ keys) cells env h k n =
           let rest = differs q keys cells env own.1 other.1 (λ same. n (ap₂ (λ (c : Cell) (cs : List Cell). c ∷ cs) e same)) in
           (rest.0, (inr rest.1.0, rest.1.1, rest.1.2, rest.1.3)))
       | inr f ↦ (key, (inl refl, own.0, other.0, unequal-apart (is_nowhere key.by y) (is_eq (cell_compare x y)) f))
-    ]
-
--- of plain cells that aren't all equal, one key rejects
-pub differ-rejects : (test : Environment → Bool) (q : ℕ) (keys : List Key) (cells : List Cell) (env : Environment) → ((k : Key) → In k keys → RejectsBy test q k) → all_plain q keys cells ≡ true → others_plain keys env ≡ true
-    → list_all (λ k. is_eq (cell_compare (own_of q (shown.term k.own.now) cells) (other_of (shown.term k.other.now) env))) keys ≡ false → test (bound q cells env) ≡ true
-differ-rejects test q [] cells env rejects h k n = absurd (let z : ⊥ = cc in z)
-differ-rejects test q (key ∷ keys) cells env rejects h k n =
-    let x = own_of q (shown.term key.own.now) cells in
-    let y = other_of (shown.term key.other.now) env in
-    let own = and_parts (is_plain key.by x) (all_plain q keys cells) h in
-    let other = and_parts (is_plain key.by y) (others_plain keys env) k in
-    elim (cases_Bool (is_eq (cell_compare x y))) [
-      | inl t ↦ differ-rejects test q keys cells env (λ d i. rejects d (inr i)) own.1 other.1 (sym (ap (λ (b : Bool). b && are-equal q keys cells env) t) ∙ n)
-      | inr f ↦ rejects key (inl refl) cells env own.0 other.0 (unequal-apart (is_nowhere key.by y) (is_eq (cell_compare x y)) f)
     ]
 
 -- ---- rows that an index knows

@@ -1,5 +1,5 @@
 -- How many rows a select takes that is evaluated over open boxes.
-use Rattle.std.proofs.Common.{ℕ, ◌≡◌, ◌<◌, ◌≤◌, ◌+◌, ◌∷◌, ◌∙◌, not, cond, Bool, true, false, List, [], Some, drop, get_or, length, slice_get, refl, sym, ap, ap₂, subst, inl, inr, arith}
+use Rattle.std.proofs.Common.{ℕ, ◌≡◌, ◌<◌, ◌+◌, ◌∙◌, not, Bool, true, false, List, [], drop, get_or, length, refl, sym, ap, ap₂, subst, inl, inr, arith}
 use Rattle.std.specs.List.{list_all, list_any}
 use Rattle.std.proofs.lemmas.Bool.{cases_Bool}
 use Rattle.list_laws.specs.Lists.{In}
@@ -14,15 +14,13 @@ use Rattle.box_exec.specs.Asked.{keys_at}
 use Rattle.box_exec.specs.Early.{is_open}
 use Rattle.box_exec.specs.Plans.{Planned, SeeksAt, SoughtAt, asked_takings_at, family, ranges, takings_left, ways_left}
 use Rattle.box_exec.specs.Sought.{AllSought, OpensAs}
-use Rattle.box_exec.specs.Taken.{bound_order, in_turn, is_taken, takes}
+use Rattle.box_exec.specs.Taken.{bound_order, is_taken, takes}
 use Rattle.box_exec.specs.Takings.{keys_by, order_by}
 use Rattle.box_exec.specs.declared.boxes.At.{At}
-use Rattle.box_exec.specs.declared.lookup.Keyed.{Keyed}
-use Rattle.box_exec.specs.declared.order.Order.{Order}
 use Rattle.box_exec.specs.declared.under.Loop.{Loop}
 use Rattle.box_exec.proofs.Evaluations.{each_row, rows-bound, rows-over}
 use Rattle.box_exec.proofs.Lookups.{in-at}
-use Rattle.box_exec.proofs.Quantifiers.{past-all, past-ranges, placed, range-at, range-within}
+use Rattle.box_exec.proofs.Quantifiers.{placed, range-at, range-within}
 use Rattle.box_exec.proofs.Seeking.{any-open, row_ways, taken-here, taken-open, ways-bound, ways-over}
 use Rattle.box_exec.proofs.Tails.{overs-here}
 use Rattle.box_exec.proofs.Takings.{each-sum}

@@ -4,7 +4,6 @@ use Rattle.std.specs.List.{list_all}
 use Rattle.std.proofs.lemmas.Bool.{cases_Bool}
 use Rattle.row_bag.specs.Bags.{total}
 use Rattle.row_bag.specs.declared.tables.Table.{Table}
-use Rattle.sql_value.specs.declared.cell.Cell.{Cell}
 use Rattle.qgm_core.specs.Boxes.{HasBox, Ordered, QueryGraph, has_box}
 use Rattle.qgm_core.specs.Free.{free_in, reached}
 use Rattle.qgm_core.specs.Kinds.{is_F}

@@ -1,23 +1,13 @@
 -- Keys as they are found and indexed, against the equalities that conditions are.
-use Rattle.std.specs.Prelude.{ℕ, suc, ◌≡◌, ◌<◌, ◌+◌, ◌++◌, ◌==◌, ◌&&◌, ◌||◌, not, nat_lt, if◌then◌else◌, Bool, true, false, List, [], ◌∷◌, Option, Some, None, filter, get_or, length, map, slice_get, take}
-use Rattle.std.specs.List.{flat_map, list_all, list_any}
-use Rattle.std.specs.Ordering.{is_eq}
-use Rattle.sql_value.specs.Cells.{cell_compare}
-use Rattle.sql_value.specs.declared.cell.Cell.{Cell}
+use Rattle.std.specs.Prelude.{ℕ, suc, ◌≡◌, ◌<◌, ◌+◌, ◌++◌, ◌==◌, not, if◌then◌else◌, true, List, [], ◌∷◌, Option, Some, None, filter, get_or, length, map, slice_get}
+use Rattle.std.specs.List.{flat_map}
 use Rattle.qgm_core.specs.Kinds.{is_F}
 use Rattle.qgm_core.specs.declared.node.Node.{Node}
 use Rattle.qgm_core.specs.declared.owned.OwnedQuant.{OwnedQuant}
-use Rattle.qgm_meaning.specs.Values.{Environment}
 use Rattle.qgm_terms.specs.Shown.{cond, term}
 use Rattle.qgm_terms.specs.Terms.{Cond, Term}
-use Rattle.row_bag.specs.declared.row.Row.{Row}
-use Rattle.row_index.specs.Ways.{sees}
-use Rattle.row_index.specs.declared.ways.Way.{Way}
-use Rattle.box_exec.specs.Early.{is_open, names_any, reads_any}
-use Rattle.box_exec.specs.Equalities.{other_of, own_of}
-use Rattle.box_exec.specs.Lasting.{rows_kept}
-use Rattle.box_exec.specs.Lookup.{all_plain, any_nowhere, others_plain}
-use Rattle.box_exec.specs.Taken.{Match, matched, one_way, takes}
+use Rattle.box_exec.specs.Early.{names_any, reads_any}
+use Rattle.box_exec.specs.Taken.{Match, matched, one_way}
 use Rattle.box_exec.specs.declared.early.Early.{Early}
 use Rattle.box_exec.specs.declared.key.Equality.{Equality}
 use Rattle.box_exec.specs.declared.key.Key.{Key}
@@ -85,13 +75,3 @@ tested_at es place q = flat_map (λ e. matched_at place q (shown_early e)) es
 -- each F quantifier has all keys that are tested when it is bound
 abbrev pub AllAsked : List Early → List Loop → List (Option Keyed) → Type 0
 AllAsked es ls ks = (i : ℕ) (l : Loop) → i < length ls → l ≡ get_or ls i l → is_F l.range.kind ≡ true → keys_at ks i ≡ tested_at es (i + 1) l.range.id
-
--- ---- rows that are taken
-
--- the own cells of a row are the other ones
-abbrev pub are_equal : ℕ → List Key → List Cell → Environment → Bool
-are_equal q keys cells env = list_all (λ k. is_eq (cell_compare (own_of q (term k.own.now) cells) (other_of (term k.other.now) env))) keys
-
--- a row is taken by keys
-abbrev pub is_found : ℕ → List Key → List Cell → Environment → Bool
-is_found q keys cells env = not (all_plain q keys cells) || (not (any_nowhere keys env) && (not (others_plain keys env) || are_equal q keys cells env))

@@ -25,3 +25,4 @@ pub mod Taken
 pub mod Asked
 pub mod Sought
 pub mod Takings
+pub mod Seekers

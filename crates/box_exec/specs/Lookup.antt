@@ -1,6 +1,6 @@
 -- Rows of a quantifier, found by the hashes of the cells that equalities ask for.
 use Rattle.std.specs.Prelude.{ℕ, ◌≡◌, ◌<◌, Bool, true, false, All, IfSome, List, get_or, if◌then◌else◌, length, map, Option, Some, None, ⊤}
-use Rattle.std.specs.List.{list_all, list_any}
+use Rattle.std.specs.List.{list_all}
 use Rattle.list_laws.specs.Lists.{In}
 use Rattle.qgm_meaning.specs.Values.{Environment, bound}
 use Rattle.qgm_terms.specs.Shown.{term}
@@ -49,9 +49,6 @@ FitsKeys test q rows k = All (λ key. RejectsBy test q key) k.keys.items × IfSo
 
 abbrev pub others_plain : List Key → Environment → Bool
 others_plain keys env = list_all (λ k. is_plain k.by (other_of (term k.other.now) env)) keys
-
-abbrev pub any_nowhere : List Key → Environment → Bool
-any_nowhere keys env = list_any (λ k. is_nowhere k.by (other_of (term k.other.now) env)) keys
 
 -- what the other sides of keys come to: a hash where all are plain, anything, or one of which an equality is nowhere true
 abbrev pub Aims : List Key → Environment → Aim → Type 0

@@ -1,5 +1,5 @@
 -- How many rows selects take for their F quantifiers: by look-ups in indexes, and by loops where there is none.
-use Rattle.std.specs.Prelude.{ℕ, suc, zero, ◌+◌, ◌==◌, ◌&&◌, ◌||◌, ◌++◌, not, if◌then◌else◌, Bool, true, false, List, [], ◌∷◌, Option, Some, None, drop, filter, length, take}
+use Rattle.std.specs.Prelude.{ℕ, suc, zero, ◌+◌, ◌==◌, ◌&&◌, ◌||◌, ◌++◌, not, if◌then◌else◌, Bool, true, List, [], ◌∷◌, Option, Some, None, drop, filter, length, take}
 use Rattle.std.specs.List.{flat_map, list_all, list_any, position, remove}
 use Rattle.std.specs.Ordering.{is_eq}
 use Rattle.row_bag.specs.Bags.{total}
@@ -74,12 +74,15 @@ matches n r rs = flat_map (matched r.id) (filter (λ c. not (names_any c n.quant
 
 -- ---- look-ups
 
--- a look-up takes a row of q: one with an error among its own cells; and where no `=` has a null on its other side, each if one of the other cells is an error, else one whose own cells are the other ones
+-- a key lets a row of q pass: one with an error in its own cell; else, where the other cell isn't null beside `=`, each if that is an error, and one whose own cell is the other one
+abbrev pub passes : ℕ → Environment → List Cell → Match → Bool
+passes q env cells m =
+    not (is_plain m.by (own_of q m.own cells))
+    || (not (is_nowhere m.by (other_of m.other env)) && (not (is_plain m.by (other_of m.other env)) || is_eq (cell_compare (own_of q m.own cells) (other_of m.other env))))
+
+-- a look-up takes a row that all keys let pass
 abbrev pub takes : List Match → ℕ → Environment → List Cell → Bool
-takes ms q env cells =
-    not (list_all (λ m. is_plain m.by (own_of q m.own cells)) ms)
-    || (not (list_any (λ m. is_nowhere m.by (other_of m.other env)) ms)
-    && (not (list_all (λ m. is_plain m.by (other_of m.other env)) ms) || list_all (λ m. is_eq (cell_compare (own_of q m.own cells) (other_of m.other env))) ms))
+takes ms q env cells = list_all (passes q env cells) ms
 
 -- ---- ways to choose rows
 

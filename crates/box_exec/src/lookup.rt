@@ -5,6 +5,7 @@ ghost use Rattle.box_exec.specs.Bound.{env_of};
 ghost use Rattle.box_exec.specs.Forms.{cell_held};
 ghost use Rattle.box_exec.specs.Equalities.{other_of};
 ghost use Rattle.box_exec.specs.Lookup as spec;
+ghost use Rattle.box_exec.specs.Taken as taken;
 ghost use Rattle.qgm_meaning.specs.Values.{Environment};
 ghost use Rattle.qgm_terms.specs.Shown.{term};
 ghost use Rattle.row_bag.specs.declared.row.Row.{Row};
@@ -249,9 +250,31 @@ pub(crate) fn keyed_way<'a>(
     }
 }
 
-/// Whether a look-up by keys takes a row: one with an error among its own cells; and where no `=` has a null on
-/// its other side, each if one of the other cells is an error, else one whose own cells are the other ones. It
-/// fails only for want of memory.
+// Whether a key lets a row pass: one with an error in its own cell; else, where the other cell isn't null
+// beside `=`, each if that is an error, and one whose own cell is the other one.
+fn passes(
+    alloc: Global,
+    key: &Key<'_>,
+    q: QuantId,
+    cells: &[Cell],
+    env: &Bindings,
+) -> Result<bool, OutOfMemory>
+    ensures { IfOk result (λ b. b ≡ taken.passes q (env_of env.now) cells.now (asked.shown_key key.now)) }
+{
+    let alone = Bindings::Empty;
+    let inside = Bindings::Row(q, cells, &alone);
+    let own = cell_of(alloc, key.own, &inside)?;
+    if !is_plain(key.by, own.cell()) {
+        return Ok(true);
+    }
+    let other = cell_of(alloc, key.other, env)?;
+    if is_nowhere(key.by, other.cell()) {
+        return Ok(false);
+    }
+    Ok(!is_plain(key.by, other.cell()) || is_equal(own.cell(), other.cell()))
+}
+
+/// Whether a look-up by keys takes a row: one that all keys let pass. It fails only for want of memory.
 pub(crate) fn takes(
     alloc: Global,
     keys: &[Key<'_>],
@@ -259,22 +282,12 @@ pub(crate) fn takes(
     cells: &[Cell],
     env: &Bindings,
 ) -> Result<bool, OutOfMemory>
-    ensures { IfOk result (λ b. b ≡ asked.is_found q keys.now cells.now (env_of env.now)) }
+    ensures { IfOk result (λ b. b ≡ taken.takes (asked.shown_keys keys.now) q (env_of env.now) cells.now) }
 {
-    let alone = Bindings::Empty;
-    let inside = Bindings::Row(q, cells, &alone);
-    let mut nowhere = false;
-    let mut plain = true;
-    let mut equal = true;
     for key in keys {
-        let own = cell_of(alloc, key.own, &inside)?;
-        let other = cell_of(alloc, key.other, env)?;
-        if !is_plain(key.by, own.cell()) {
-            return Ok(true);
+        if !passes(alloc, key, q, cells, env)? {
+            return Ok(false);
         }
-        nowhere = nowhere || is_nowhere(key.by, other.cell());
-        plain = plain && is_plain(key.by, other.cell());
-        equal = equal && is_equal(own.cell(), other.cell());
     }
-    Ok(!nowhere && (!plain || equal))
+    Ok(true)
 }

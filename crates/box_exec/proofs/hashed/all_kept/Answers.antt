@@ -1,4 +1,4 @@
-use Rattle.std.proofs.Common.{◌≡◌, ◌∙◌, ap, not, sym}
+use Rattle.std.proofs.Common.{◌∙◌, ap, not, sym}
 use Rattle.box_exec.proofs.Hashing.{none-all, not-true}
 use Rattle.box_exec.specs.Early.{is_open}
 use Rattle.box_exec.specs.declared.under.Loop.{Loop}

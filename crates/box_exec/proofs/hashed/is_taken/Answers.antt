@@ -1,14 +1,14 @@
 use Rattle.std.proofs.Common.{◌≡◌, ◌+◌, ◌∙◌, [], List, Option, Some, ap, false, option_map, slice_get, subst, sym}
 use Rattle.std.specs.Borrow.{Bor}
 use Rattle.std.proofs.lemmas.Result.{IfOk-weaker}
-use Rattle.box_exec.specs.Asked.{is_found, keys_at, keys_made, shown_keys}
+use Rattle.box_exec.specs.Asked.{keys_at, keys_made, shown_keys}
 use Rattle.box_exec.specs.Bound.{env_of}
 use Rattle.box_exec.specs.Early.{rejects}
 use Rattle.box_exec.specs.Lookup.{RejectsBy}
 use Rattle.box_exec.specs.Taken.{Match, takes}
 use Rattle.box_exec.specs.declared.key.Key.{Key}
 use Rattle.box_exec.specs.declared.lookup.Keyed.{Keyed}
-use Rattle.box_exec.proofs.Asking.{takes-keys, untaken-rejects}
+use Rattle.box_exec.proofs.Asking.{untaken-rejects}
 use Rattle.box_exec.proofs.Lasting.{keyed-at}
 use Rattle.box_exec.proofs.Lookups.{some-is}
 use Rattle.box_exec.proofs.Rejections.{all-at}
@@ -25,7 +25,7 @@ returns-in-Some-clause-passed c =
     let fits = (keyed-at at c.requires.bound i l c.requires.within c.requires.at k found).0 in
     IfOk-weaker c.takes.result _ _
     (λ b h. λ no. untaken-rejects (rejects at.early.now (i + 1)) l.range.id k.keys.items c.args.cells.now env (λ key j. all-at (RejectsBy (rejects at.early.now (i + 1)) l.range.id) key k.keys.items fits j)
-    (subst (λ (ks : List Key). is_found l.range.id ks c.args.cells.now env ≡ false) c.deref.ensures.value (sym h ∙ no)))
+    (subst (λ (ks : List Key). takes (shown_keys ks) l.range.id env c.args.cells.now ≡ false) c.deref.ensures.value (sym h ∙ no)))
     c.takes.ensures
 
 pub returns-in-Some-clause-taken : goal.returns-in-Some-clause-taken
@@ -37,7 +37,7 @@ returns-in-Some-clause-taken c = λ shut.
     let cells = c.args.cells.now in
     let here : shown_keys k.keys.items ≡ keys_at ks c.args.i = sym (ap (λ (o : Option (Bor Keyed)). keys_made (option_map (λ x. x.now) o)) c.in-Some.is) ∙ c.keyed_at.ensures.keys in
     IfOk-weaker c.takes.result _ _
-    (λ b h. h ∙ ap (λ (xs : List Key). is_found q xs cells env) c.deref.ensures.value ∙ sym (takes-keys k.keys.items q env cells) ∙ ap (λ (ms : List Match). takes ms q env cells) here)
+    (λ b h. h ∙ ap (λ (xs : List Key). takes (shown_keys xs) q env cells) c.deref.ensures.value ∙ ap (λ (ms : List Match). takes ms q env cells) here)
     c.takes.ensures
 
 pub returns-in-None-clause-taken : goal.returns-in-None-clause-taken

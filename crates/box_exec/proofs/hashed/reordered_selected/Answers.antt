@@ -1,4 +1,4 @@
-use Rattle.std.proofs.Common.{ℕ, List, ◌≡◌, ◌∙◌, ap, false, not, rules, subst, sym, true}
+use Rattle.std.proofs.Common.{List, ◌≡◌, ◌∙◌, ap, false, not, rules, subst, sym, true}
 use Rattle.std.specs.List.{list_any}
 use Rattle.std.specs.Prelude.{IfOk}
 use Rattle.list_laws.specs.Lists.{In}

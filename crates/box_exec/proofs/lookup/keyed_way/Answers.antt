@@ -1,5 +1,4 @@
-use Rattle.std.proofs.Common.{All, List, Option, ◌∙◌, subst, sym}
-use Rattle.std.specs.Prelude.{IfSome}
+use Rattle.std.proofs.Common.{All, List, ◌∙◌, subst, sym}
 use Rattle.std.proofs.lemmas.Result.{IfOk-weaker}
 use Rattle.row_index.specs.Ways.{Indexes}
 use Rattle.row_index.specs.declared.rows.RowIndex.{RowIndex}

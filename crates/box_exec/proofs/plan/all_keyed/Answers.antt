@@ -1,4 +1,3 @@
-use Rattle.std.proofs.Common.{arith}
 use Rattle.box_exec.proofs.Asking.{asked-more}
 use Rattle.box_exec.proofs.Hashing.{keyed-more, one-longer}
 use Rattle.box_exec.proofs.plan.all_keyed.Goals as goal

@@ -1,4 +1,4 @@
-use Rattle.std.proofs.Common.{ℕ, ◌<◌, All, List, arith, length, subst}
+use Rattle.std.proofs.Common.{◌<◌, All, List, arith, length, subst}
 use Rattle.std.proofs.lemmas.Grind.{common_steps}
 use Rattle.box_exec.specs.Asked.{AllAsked, AreEarly}
 use Rattle.box_exec.specs.Sought.{AllSought}
