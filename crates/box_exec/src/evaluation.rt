@@ -27,17 +27,17 @@ use sql_value::{
 };
 use std::alloc::Global;
 
-// A text as a cell.
+/// A text as a cell.
 #[inline(never)]
-fn text(alloc: Global, characters: &Text) -> Result<Cell, OutOfMemory>
+pub(crate) fn text(alloc: Global, characters: &Text) -> Result<Cell, OutOfMemory>
     ensures { IfOk result (λ cell. cell ≡ Cell.Text characters.now) }
 {
     Ok(Cell::Text(characters.copy(alloc)?))
 }
 
-// An operation on two cells.
+/// An operation on two cells.
 #[inline(never)]
-fn operate(alloc: Global, op: Op, a: &Cell, b: &Cell) -> Result<Cell, OutOfMemory>
+pub(crate) fn operate(alloc: Global, op: Op, a: &Cell, b: &Cell) -> Result<Cell, OutOfMemory>
     ensures { IfOk result (λ cell. cell ≡ meaning.operate op a.now b.now) }
 {
     match op {

@@ -9,6 +9,7 @@ ghost use Rattle.qgm_terms.specs.Terms.{Cond, Term, compare};
 use crate::bindings::Bindings;
 use crate::evaluation::value;
 use crate::key::{Equality, Key, sided};
+use crate::simple::is_simple;
 use qgm_core::{Gc, Gx, QuantId};
 use qgm_terms::Sign;
 use row_bag::Bag;
@@ -53,7 +54,8 @@ fn of_type(texts: bool) -> Equality
     }
 }
 
-// The keys of a comparison, if it tells that rows count for nothing, and the other side is a column.
+// The keys of a comparison, if it tells that rows count for nothing, and the other side is of columns,
+// constants and operators.
 fn idle_key<'a>(
     alloc: Global,
     s: Sign,
@@ -65,9 +67,9 @@ fn idle_key<'a>(
     ensures { IfOk result (λ made. (a b : Term) → AreEither q a b key.entry → All (λ k. spec.Idles holds q (compare (sign s) a b) k) made.items) }
 {
     let mut made = Vec::new(alloc);
-    let Gx::Col(_, _) = key.other else {
+    if !is_simple(alloc, key.other)? {
         return Ok(made);
-    };
+    }
     let texts = are_texts(alloc, key.own, q, rows)?;
     if let Some(by) = telling(s, holds, texts) {
         made.push(Key {

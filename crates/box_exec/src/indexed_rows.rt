@@ -11,7 +11,7 @@ use crate::bindings::Bindings;
 use crate::idle_index::IdleIndex;
 use crate::key::{Key, is_plain};
 use crate::lookup::all_rows;
-use crate::operand::standing;
+use crate::simple::simple_operand;
 use qgm_core::{Gc, QuantId};
 use qgm_term_search::same_cond;
 use row_bag::Bag;
@@ -41,22 +41,23 @@ impl<'a> Model for IndexedRows<'a> {
     ghost invariant = { λ f. IsIdleIndex f.rows.now f.index.now };
 }
 
-// The hash of the other sides of keys, where each is a column whose cell is plain.
+// The hash of the other sides of keys, where each is of columns, constants and operators, and its cell is plain.
 #[tactic(auto, unfolding(row_bag::specs::Hashes::hash_of))]
-fn hash_at(keys: &[Key<'_>], env: &Bindings) -> Option<u64>
-    ensures { IfSome result (λ hash. Aims keys.now (env_of env.now) (Hash hash)) }
+fn hash_at(alloc: Global, keys: &[Key<'_>], env: &Bindings) -> Result<Option<u64>, OutOfMemory>
+    ensures { IfOk result (λ o. IfSome o (λ hash. Aims keys.now (env_of env.now) (Hash hash))) }
 {
     let mut hasher = FoldHasher::default();
     for key in keys {
-        let Some(cell) = standing(key.other, env) else {
-            return None;
+        let Some(other) = simple_operand(alloc, key.other, env)? else {
+            return Ok(None);
         };
+        let cell = other.cell();
         if !is_plain(key.by, cell) {
-            return None;
+            return Ok(None);
         }
         feed(cell, &mut hasher);
     }
-    Some(hasher.finish())
+    Ok(Some(hasher.finish()))
 }
 
 impl<'a> IndexedRows<'a> {
@@ -92,7 +93,7 @@ impl<'a> IndexedRows<'a> {
         if index.quant != q || index.holds != holds || !same_cond(alloc, index.condition, c)? {
             return Ok(all_rows(end));
         }
-        match hash_at(&index.hashed.keys, env) {
+        match hash_at(alloc, &index.hashed.keys, env)? {
             Some(hash) => Ok(Way {
                 end,
                 index: Some(&index.hashed.index),

@@ -23,6 +23,7 @@ mod memo;
 mod operand;
 mod order;
 mod plan;
+mod simple;
 mod source;
 mod tally;
 mod under;
