@@ -1,5 +1,5 @@
 // The rows of two boxes put together (SQL-92, 7.10).
-ghost use Rattle.std.specs.Prelude.{◌≡◌, IfOk, IsOkAnd};
+ghost use Rattle.std.specs.Prelude.{IfOk, IsOkAnd};
 ghost use Rattle.qgm_meaning.specs.Meaning as m;
 ghost use Rattle.row_bag.specs.Operands.{held};
 ghost use Rattle.row_bag.specs.Bags.{Alike};
@@ -10,7 +10,7 @@ use shared_types::OutOfMemory;
 use std::alloc::Global;
 
 // The rows of both, as the operator puts them together, of so many columns.
-fn of_sources(
+fn of_operands(
     alloc: Global,
     operator: SetOperator,
     width: usize,
@@ -40,5 +40,5 @@ pub(crate) fn combined(
 ) -> Result<Bag, OutOfMemory>
     ensures { IfOk result (λ bag. IsOkAnd xs.entry (λ s. IsOkAnd ys.entry (λ t. Alike bag (m.combined operator width (held s) (held t))))) }
 {
-    of_sources(alloc, operator, width, xs?, ys?)
+    of_operands(alloc, operator, width, xs?, ys?)
 }

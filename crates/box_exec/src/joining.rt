@@ -1,6 +1,6 @@
 // The rows of an outer join (SQL-92, 7.5). Right rows are found by the hashes of the cells that equalities
 // among its conditions ask for.
-ghost use Rattle.std.specs.Prelude.{◌≡◌, [], All, IfOk, IfSome, IsOkAnd, OnOk};
+ghost use Rattle.std.specs.Prelude.{◌≡◌, [], All, IfOk, IfSome, IsOkAnd};
 ghost use Rattle.box_exec.specs.Bound.{env_of};
 ghost use Rattle.box_exec.specs.Lookup.{Hashes, Leads, RejectsBy};
 ghost use Rattle.box_exec.specs.Outer.{HashedOn, joined_rows, null_row, partner_rows, rejects_on};

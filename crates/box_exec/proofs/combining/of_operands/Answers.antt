@@ -2,7 +2,7 @@ use Rattle.std.proofs.lemmas.Result.{IfOk-weaker}
 use Rattle.row_bag.specs.Sets.{same_cells}
 use Rattle.row_bag.proofs.Counts.{alike-from_agree}
 use Rattle.row_bag.proofs.TupleBags.{same_cells-decides}
-use Rattle.box_exec.proofs.combining.of_sources.Goals as goal
+use Rattle.box_exec.proofs.combining.of_operands.Goals as goal
 
 pub returns-in-UnionAll : goal.returns-in-UnionAll
 returns-in-UnionAll c =
