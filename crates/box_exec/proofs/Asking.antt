@@ -1,145 +1,72 @@
 -- Keys that are found and indexed are the equalities that conditions are; what a way sees of them is taken.
-use Rattle.std.proofs.Common.{ℕ, suc, zero, ◌≡◌, ◌<◌, ◌≤◌, ◌+◌, ◌-◌, ◌++◌, ◌∷◌, ◌==◌, ◌||◌, ◌&&◌, not, cond, Bool, true, false, List, [], Option, Some, None, drop, filter, get_or, length, map, option_map, slice_get, take, refl, sym, ap, ap₂, subst, ◌∙◌, eqb-true, inl, inr, arith}
-use Rattle.std.specs.Borrow.{Bor}
+use Rattle.std.proofs.Common.{ℕ, suc, zero, ◌≡◌, ◌<◌, ◌≤◌, ◌+◌, ◌-◌, ◌++◌, ◌∷◌, ◌==◌, ◌||◌, ◌&&◌, not, cond, Bool, true, false, List, [], Option, Some, drop, filter, get_or, length, map, slice_get, refl, sym, ap, ap₂, subst, ◌∙◌, eqb-true, ◌⊎◌, inl, inr, arith}
 use Rattle.std.specs.List.{flat_map, list_all, list_any}
-use Rattle.std.proofs.lemmas.Bool.{and_parts, cases_Bool, cases_lt, eq-eqb, eqb-false, or_left, or_right}
+use Rattle.std.proofs.lemmas.Bool.{cases_Bool, cases_lt, eq-eqb, or_left, or_right}
 use Rattle.list_laws.specs.Lists.{In}
-use Rattle.list_laws.proofs.Booleans.{clash, neither-left, neither-right}
+use Rattle.list_laws.proofs.Booleans.{neither-left, neither-right}
 use Rattle.sql_value.specs.declared.cell.Cell.{Cell}
-use Rattle.row_bag.specs.declared.row.Row.{Row}
-use Rattle.row_index.specs.Ways.{Indexes, StandsAs, has_hash, is_marked, sees, sees_by}
-use Rattle.row_index.specs.declared.rows.RowIndex.{RowIndex}
-use Rattle.row_index.specs.declared.ways.Way.{Way}
 use Rattle.qgm_core.specs.declared.node.Node.{Node}
 use Rattle.qgm_core.specs.declared.owned.OwnedQuant.{OwnedQuant}
-use Rattle.qgm_meaning.specs.Values.{Bag, Environment, bound}
+use Rattle.qgm_meaning.specs.Values.{Environment, bound}
 use Rattle.qgm_terms.specs.Shown.{cond as shown_cond, conds, term}
 use Rattle.qgm_terms.specs.declared.tree.Gc.{Gc}
 use Rattle.qgm_terms.specs.Terms.{Cond, Term, Sign, equal, unequal, below, at_most, above, at_least, same, like, always, compare, is_null, and, or, some, every, anded, ored}
 use Rattle.qgm_terms.specs.Terms as terms
 use Rattle.qgm_terms.specs.Named.{columns_in}
 use Rattle.qgm_terms.specs.Wanted.{node_free, reads, reads_cond}
-use Rattle.box_exec.specs.Asked.{AreEarly, Picks, are_equal, is_met, keys_at, keys_made, matched_at, may_bind_several, place_in, placed_early, shown_early, shown_key, shown_keys, tested_at}
+use Rattle.box_exec.specs.Asked.{AllAsked, AreEarly, keys_at, keys_in, keys_made, matched_at, place_in, placed_early, shown_early, shown_key, shown_keys, tested_at}
 use Rattle.box_exec.specs.Early.{names_any, reads_any}
-use Rattle.box_exec.specs.Equalities.{is_nowhere, is_plain, other_of, own_of, owns}
-use Rattle.row_bag.specs.Hashes.{hash_of}
+use Rattle.box_exec.specs.Equalities.{is_nowhere, is_plain, other_of, own_of}
 use Rattle.sql_value.specs.Cells.{cell_compare}
 use Rattle.std.specs.Ordering.{is_eq}
-use Rattle.std.proofs.lemmas.List.{append_assoc, get_or_default, length-map, map-append, take_more}
-use Rattle.box_exec.specs.Lookup.{RejectsBy, all_plain, any_nowhere, others_plain, row_hash, row_hashes}
-use Rattle.box_exec.specs.Taken.{Match, is_other, is_own, matched, matched_by, matches, one_way, takes}
+use Rattle.std.proofs.lemmas.List.{append_assoc, get_or_default, map-append}
+use Rattle.box_exec.specs.Lookup.{RejectsBy}
+use Rattle.box_exec.specs.Taken.{Match, is_other, is_own, matched, matches, one_way, passes, takes}
 use Rattle.box_exec.specs.declared.early.Early.{Early}
 use Rattle.box_exec.specs.declared.key.Equality.{Equality}
 use Rattle.box_exec.specs.declared.key.Equality.TheVariants.{Same, Equal}
 use Rattle.box_exec.proofs.Loops.{from}
 use Rattle.box_exec.specs.declared.key.Key.{Key}
-use Rattle.box_exec.specs.declared.lookup.Hashed.{Hashed}
+use Rattle.box_exec.specs.declared.lookup.Keyed.{Keyed}
 use Rattle.box_exec.specs.declared.under.Loop.{Loop}
 use Rattle.qgm_core.specs.Kinds.{is_F}
-use Rattle.box_exec.proofs.Lookups.{differ-rejects, row-at}
+use Rattle.box_exec.proofs.Lasting.{loop-at}
+use Rattle.box_exec.proofs.Lookups.{nowhere-plain}
+use Rattle.box_exec.specs.Sought.{AllSought}
 
 -- ---- lists
 
-all-map : {X Y : Type 0} (f : X → Y) (p : Y → Bool) (xs : List X) → list_all p (map f xs) ≡ list_all (λ x. p (f x)) xs
-all-map f p [] = refl
-all-map f p (x ∷ xs) = ap (λ (b : Bool). p (f x) && b) (all-map f p xs)
-
-any-map : {X Y : Type 0} (f : X → Y) (p : Y → Bool) (xs : List X) → list_any p (map f xs) ≡ list_any (λ x. p (f x)) xs
+pub any-map : {X Y : Type 0} (f : X → Y) (p : Y → Bool) (xs : List X) → list_any p (map f xs) ≡ list_any (λ x. p (f x)) xs
 any-map f p [] = refl
 any-map f p (x ∷ xs) = ap (λ (b : Bool). p (f x) || b) (any-map f p xs)
 
--- ---- what a look-up takes
+-- ---- rows that are taken
 
-abbrev equal-cells : ℕ → Environment → List Cell → Match → Bool
-equal-cells q env cells m = is_eq (cell_compare (own_of q m.own cells) (other_of m.other env))
+-- of a row that a key doesn't let pass
+unpassed : (a b c d : Bool) → (not a || (not b && (not c || d))) ≡ false → (a ≡ true) × ((b ≡ true) ⊎ ((c ≡ true) × (d ≡ false)))
+unpassed true true c d h = (refl, inl refl)
+unpassed true false true true h = absurd (let z : ⊥ = cc in z)
+unpassed true false true false h = (refl, inr (refl, refl))
+unpassed true false false d h = absurd (let z : ⊥ = cc in z)
+unpassed false b c d h = absurd (let z : ⊥ = cc in z)
 
-abbrev hash_of-owns : ℕ → List Key → List Cell → ℕ
-hash_of-owns q keys cells = hash_of (owns q keys cells)
+unpassed-rejects : (test : Environment → Bool) (q : ℕ) (key : Key) (cells : List Cell) (env : Environment) → RejectsBy test q key → passes q env cells (shown_key key) ≡ false → test (bound q cells env) ≡ true
+unpassed-rejects test q key cells env rejects h =
+    let x = own_of q (term key.own.now) cells in
+    let y = other_of (term key.other.now) env in
+    let u = unpassed (is_plain key.by x) (is_nowhere key.by y) (is_plain key.by y) (is_eq (cell_compare x y)) h in
+    elim u.1 [
+      | inl none ↦ rejects cells env u.0 (nowhere-plain key.by y none) (or_left (is_nowhere key.by y) (not (is_eq (cell_compare x y))) none)
+      | inr other ↦ rejects cells env u.0 other.0 (or_right (is_nowhere key.by y) (not (is_eq (cell_compare x y))) (ap not other.1))
+    ]
 
-pub takes-keys : (keys : List Key) (q : ℕ) (env : Environment) (cells : List Cell)
-    → takes (shown_keys keys) q env cells ≡ (not (all_plain q keys cells) || (not (any_nowhere keys env) && (not (others_plain keys env) || are_equal q keys cells env)))
-takes-keys keys q env cells =
-    let a = all-map shown_key (λ (m : Match). is_plain m.by (own_of q m.own cells)) keys in
-    let b = any-map shown_key (λ (m : Match). is_nowhere m.by (other_of m.other env)) keys in
-    let c = all-map shown_key (λ (m : Match). is_plain m.by (other_of m.other env)) keys in
-    let d = all-map shown_key (λ (m : Match). equal-cells q env cells m) keys in
-    ap₂ (λ (x y : Bool). not x || y) a (ap₂ (λ (x y : Bool). not x && y) b (ap₂ (λ (x y : Bool). not x || y) c d))
-
-met-takes-of : (a b c d : Bool) → b ≡ false → (not a || (not c || d)) ≡ true → (not a || (not b && (not c || d))) ≡ true
-met-takes-of true true c d h k = absurd (let z : ⊥ = cc in z)
-met-takes-of true false c d h k = k
-met-takes-of false b c d h k = refl
-
--- a row that is met is taken, where no equality is nowhere true
-pub met-takes : (keys : List Key) (q : ℕ) (env : Environment) (cells : List Cell) → any_nowhere keys env ≡ false → is_met q keys cells env ≡ true → takes (shown_keys keys) q env cells ≡ true
-met-takes keys q env cells none met = takes-keys keys q env cells ∙ met-takes-of (all_plain q keys cells) (any_nowhere keys env) (others_plain keys env) (are_equal q keys cells env) none met
-
-all-takes-of : (a b c d : Bool) → b ≡ false → c ≡ false → (not a || (not b && (not c || d))) ≡ true
-all-takes-of true true c d h k = absurd (let z : ⊥ = cc in z)
-all-takes-of true false true d h k = absurd (let z : ⊥ = cc in z)
-all-takes-of true false false d h k = refl
-all-takes-of false b c d h k = refl
-
-error-takes-of : (a b c d : Bool) → a ≡ false → (not a || (not b && (not c || d))) ≡ true
-error-takes-of true b c d h = absurd (let z : ⊥ = cc in z)
-error-takes-of false b c d h = refl
-
--- an empty list of keys takes all
-pub none-takes : (q : ℕ) (env : Environment) (cells : List Cell) → takes [] q env cells ≡ true
-none-takes q env cells = refl
-
--- by a hash
-pub picks-hash : (keys : List Key) (q : ℕ) (rows : Bag) (env : Environment) (w : Way) (hash : ℕ) → w.hash ≡ Some hash → any_nowhere keys env ≡ false → Picks keys q rows env w
-picks-hash keys q rows env w hash e none = record {
-  hashed = λ h k. none;
-  all = λ k. absurd (let z : ⊥ = cc in z);
-}
-
--- where another side is an error
-pub picks-all : (keys : List Key) (q : ℕ) (rows : Bag) (env : Environment) (w : Way) → w.hash ≡ None → any_nowhere keys env ≡ false → others_plain keys env ≡ false → Picks keys q rows env w
-picks-all keys q rows env w e none plain = record {
-  hashed = λ h k. none;
-  all = λ k i r l at seen. takes-keys keys q env r.cells ∙ all-takes-of (all_plain q keys r.cells) (any_nowhere keys env) (others_plain keys env) (are_equal q keys r.cells env) none plain;
-}
-
--- a row that is marked has a cell that isn't plain
-marked-unplain : (q : ℕ) (keys : List Key) (ix : RowIndex) (k : ℕ) (cells : List Cell) → StandsAs ix k (row_hash q keys cells) → is_marked ix.marks k ≡ true → all_plain q keys cells ≡ false
-marked-unplain q keys ix k cells stands seen = elim (cases_Bool (all_plain q keys cells)) [
-  | inr f ↦ f
-  | inl t ↦ absurd (
-      let has : StandsAs ix k (Some (hash_of-owns q keys cells)) = subst (λ (b : Bool). StandsAs ix k (cond b (Some (hash_of-owns q keys cells)) None)) t stands in
-      clash (is_marked ix.marks k) seen has.1)
+-- a row that isn't taken is rejected
+pub untaken-rejects : (test : Environment → Bool) (q : ℕ) (keys : List Key) (cells : List Cell) (env : Environment) → ((k : Key) → In k keys → RejectsBy test q k) → takes (shown_keys keys) q env cells ≡ false → test (bound q cells env) ≡ true
+untaken-rejects test q [] cells env rejects h = absurd (let z : ⊥ = cc in z)
+untaken-rejects test q (key ∷ keys) cells env rejects h = elim (cases_Bool (passes q env cells (shown_key key))) [
+  | inl t ↦ untaken-rejects test q keys cells env (λ k i. rejects k (inr i)) (sym (ap (λ (b : Bool). b && takes (shown_keys keys) q env cells) t) ∙ h)
+  | inr f ↦ unpassed-rejects test q key cells env (rejects key (inl refl)) f
 ]
-
-seen-marked : (o : Option (Bor RowIndex)) (ix : RowIndex) (k : ℕ) → option_map (λ (x : Bor RowIndex). x.now) o ≡ Some ix → sees_by o None k ≡ true → is_marked ix.marks k ≡ true
-seen-marked None ix k e h = absurd (let z : ⊥ = cc in z)
-seen-marked (Some x) ix k e h = let same : x.now ≡ ix = cc in subst (λ (y : RowIndex). is_marked y.marks k ≡ true) same h
-
--- where an equality is nowhere true
-pub picks-nowhere : (keys : List Key) (q : ℕ) (rows : Bag) (env : Environment) (ix : RowIndex) (w : Way) → Indexes (row_hashes q keys rows) ix → option_map (λ (x : Bor RowIndex). x.now) w.index ≡ Some ix → w.hash ≡ None → Picks keys q rows env w
-picks-nowhere keys q rows env ix w is ei eh = record {
-  hashed = λ h k. absurd (let z : ⊥ = cc in z);
-  all = λ e k r l at seen.
-      let f = λ (r : Row (List Cell)). row_hash q keys r.cells in
-      let many : length (row_hashes q keys rows) ≡ length rows = length-map rows f in
-      let marked : is_marked ix.marks k ≡ true = seen-marked w.index ix k ei (subst (λ (h : Option ℕ). sees_by w.index h k ≡ true) eh seen) in
-      let none = marked-unplain q keys ix k r.cells (is.each k (f r) (omega (arith, many, l)) (row-at f rows k r l at)) marked in
-      takes-keys keys q env r.cells ∙ error-takes-of (all_plain q keys r.cells) (any_nowhere keys env) (others_plain keys env) (are_equal q keys r.cells env) none;
-}
-
--- ---- a row that isn't met
-
-unmet-of : (a b c : Bool) → (not a || (not b || c)) ≡ false → (a ≡ true) × (b ≡ true) × (c ≡ false)
-unmet-of true true true h = absurd (let z : ⊥ = cc in z)
-unmet-of true true false h = (refl, refl, refl)
-unmet-of true false c h = absurd (let z : ⊥ = cc in z)
-unmet-of false b c h = absurd (let z : ⊥ = cc in z)
-
--- is rejected
-pub unmet-rejects : (test : Environment → Bool) (q : ℕ) (keys : List Key) (cells : List Cell) (env : Environment) → ((k : Key) → In k keys → RejectsBy test q k) → is_met q keys cells env ≡ false → test (bound q cells env) ≡ true
-unmet-rejects test q keys cells env rejects h =
-    let u = unmet-of (all_plain q keys cells) (others_plain keys env) (are_equal q keys cells env) h in
-    differ-rejects test q keys cells env rejects u.0 u.1 u.2
 
 -- ---- keys at a place
 
@@ -334,24 +261,7 @@ module _ (es : List Early) (i : ℕ) (e : Early) (place q : ℕ) (made : List Ke
       ∙ append_assoc (shown_keys made) (shown_key key ∷ []) (tested_at (drop (i + 1) es) place q)
       ∙ ap (λ (xs : List Match). shown_keys made ++ xs) (sym (next-tested ∙ ap (λ (xs : List Match). xs ++ tested_at (drop (i + 1) es) place q) (here-asked h ∙ sym n))) ∙ k
 
--- ---- indexes that are asked for
-
-or-none-right : (a : Bool) → (a || false) ≡ a
-or-none-right true = refl
-or-none-right false = refl
-
-several-of : (a b c : Bool) → ((a || b) || c) ≡ (a || (b || c))
-several-of true b c = refl
-several-of false b c = refl
-
-any-last : {X : Type 0} (p : X → Bool) (xs : List X) (x : X) → list_any p (xs ++ x ∷ []) ≡ (list_any p xs || p x)
-any-last p [] x = or-none-right (p x)
-any-last p (y ∷ xs) x = ap (λ (b : Bool). p y || b) (any-last p xs x) ∙ sym (several-of (p y) (list_any p xs) (p x))
-
--- one more
-pub several-more : {X : Type 0} (p : X → Bool) (again : Bool) (xs : List X) (i : ℕ) (x : X) → i < length xs → x ≡ get_or xs i x → (again || list_any p (take (i + 1) xs)) ≡ ((again || list_any p (take i xs)) || p x)
-several-more p again xs i x l at =
-    ap (λ (ys : List _). again || list_any p ys) (take_more xs i x l ∙ ap (λ y. take i xs ++ y ∷ []) (sym at)) ∙ ap (λ (b : Bool). again || b) (any-last p (take i xs) x) ∙ sym (several-of again (list_any p (take i xs)) (p x))
+-- ---- keys that are asked for
 
 get-last : {X : Type 0} (hs : List X) (o : X) → slice_get (hs ++ o ∷ []) (length hs) ≡ Some o
 get-last [] o = refl
@@ -362,18 +272,25 @@ get-earlier [] o j l = absurd (omega (arith, l))
 get-earlier (h ∷ hs) o zero l = refl
 get-earlier (h ∷ hs) o (suc j) l = get-earlier hs o j (omega (arith, l))
 
-abbrev asked-so : Bool → List Early → List Loop → List (Option Hashed) → ℕ → Type 0
-asked-so again es ls hs i = (j : ℕ) (m : Loop) → j < i → m ≡ get_or ls j m → is_F m.range.kind ≡ true → (again || list_any may_bind_several (take j ls)) ≡ true → keys_at (slice_get hs j) ≡ tested_at es (j + 1) m.range.id
+abbrev asked-so : List Early → List Loop → List (Option Keyed) → ℕ → Type 0
+asked-so es ls ks i = (j : ℕ) (m : Loop) → j < i → m ≡ get_or ls j m → is_F m.range.kind ≡ true → keys_at ks j ≡ tested_at es (j + 1) m.range.id
 
-pub asked-more : (again : Bool) (es : List Early) (ls : List Loop) (hs new : List (Option Hashed)) (o : Option Hashed) (i : ℕ) (l : Loop) → length hs ≡ i → i < length ls → l ≡ get_or ls i l → new ≡ hs ++ o ∷ []
-    → (is_F l.range.kind ≡ true → (again || list_any may_bind_several (take i ls)) ≡ true → keys_made o ≡ tested_at es (i + 1) l.range.id) → asked-so again es ls hs i → asked-so again es ls new (i + 1)
-asked-more again es ls hs new o i l long inside is en made all j m within it f several =
+-- those of one quantifier more
+pub asked-more : (es : List Early) (ls : List Loop) (ks new : List (Option Keyed)) (o : Option Keyed) (i : ℕ) (l : Loop) → length ks ≡ i → i < length ls → l ≡ get_or ls i l → new ≡ ks ++ o ∷ []
+    → (is_F l.range.kind ≡ true → keys_made o ≡ tested_at es (i + 1) l.range.id) → asked-so es ls ks i → asked-so es ls new (i + 1)
+asked-more es ls ks new o i l long inside is en made all j m within it f =
     elim (cases_lt j i) [
-      | inl before ↦ ap (λ (xs : List (Option Hashed)). keys_at (slice_get xs j)) en ∙ ap keys_at (get-earlier hs o j (omega (arith, before, long))) ∙ all j m before it f several
+      | inl before ↦ ap (λ (xs : List (Option Keyed)). keys_at xs j) en ∙ ap keys_in (get-earlier ks o j (omega (arith, before, long))) ∙ all j m before it f
       | inr past ↦
           (let same : j ≡ i = omega (arith, past, within) in
           let loop : l ≡ m = is ∙ get_or_default ls i l m inside ∙ ap (λ (n : ℕ). get_or ls n m) (sym same) ∙ sym it in
-          ap (λ (xs : List (Option Hashed)). keys_at (slice_get xs j)) en ∙ ap (λ (k : ℕ). keys_at (slice_get (hs ++ o ∷ []) k)) (same ∙ sym long) ∙ ap keys_at (get-last hs o)
-          ∙ made (subst (λ (x : Loop). is_F x.range.kind ≡ true) (sym loop) f) (subst (λ (k : ℕ). (again || list_any may_bind_several (take k ls)) ≡ true) same several)
+          ap (λ (xs : List (Option Keyed)). keys_at xs j) en ∙ ap (λ (k : ℕ). keys_at (ks ++ o ∷ []) k) (same ∙ sym long) ∙ ap keys_in (get-last ks o)
+          ∙ made (subst (λ (x : Loop). is_F x.range.kind ≡ true) (sym loop) f)
           ∙ ap (λ (x : Loop). tested_at es (i + 1) x.range.id) loop ∙ ap (λ (k : ℕ). tested_at es (k + 1) m.range.id) (sym same))
     ]
+
+-- they are all that the conditions ask for
+pub asked-sought : (n : Node) (rs : List OwnedQuant) (es : List Early) (ls : List Loop) (ks : List (Option Keyed)) → map (λ (l : Loop). l.range) ls ≡ rs → AreEarly n rs es → AllAsked es ls ks → AllSought n rs ks
+asked-sought n rs es ls ks ranged early asked i r l at f =
+    let x = loop-at ls i r (subst (λ (xs : List OwnedQuant). i < length xs) (sym ranged) l) (subst (λ (xs : List OwnedQuant). r ≡ get_or xs i r) (sym ranged) at) in
+    asked i x.0 x.1.0 x.1.1 (subst (λ (q : OwnedQuant). is_F q.kind ≡ true) (sym x.1.2) f) ∙ ap (λ (q : OwnedQuant). tested_at es (i + 1) q.id) x.1.2 ∙ tested-all rs i r l at n es early

@@ -21,7 +21,7 @@ there-same f g h c Division = h c Division
 there-same f g h c Overflow = h c Overflow
 there-same f g h c Yes = h c Yes
 
-total-same : (f g : List Cell → Level → ℕ) → ((c : List Cell) (l : Level) → f c l ≡ g c l) → (rows : Bag) → total ◌+◌ 0 f rows ≡ total ◌+◌ 0 g rows
+pub total-same : (f g : List Cell → Level → ℕ) → ((c : List Cell) (l : Level) → f c l ≡ g c l) → (rows : Bag) → total ◌+◌ 0 f rows ≡ total ◌+◌ 0 g rows
 total-same f g h [] = refl
 total-same f g h (r ∷ rows) = ap₂ (λ (x y : ℕ). x + y) (there-same f g h r.cells r.level) (total-same f g h rows)
 
@@ -30,7 +30,7 @@ abbrev pub SameBelow : List OwnedQuant → Family → Family → Counts → Coun
 SameBelow rs bags others count counts = (r : OwnedQuant) → In r rs → (env : Environment) → (bags r.over env ≡ others r.over env) × (count r.over env ≡ counts r.over env)
 
 module _ (bags others : Family) (count counts : Counts) where
-  each-same : (rs : List OwnedQuant) → SameBelow rs bags others count counts → (env : Environment) → under_each rs count env ≡ under_each rs counts env
+  pub each-same : (rs : List OwnedQuant) → SameBelow rs bags others count counts → (env : Environment) → under_each rs count env ≡ under_each rs counts env
   each-same [] h env = refl
   each-same (r ∷ rs) h env = ap₂ (λ (x y : ℕ). x + y) (h r (inl refl) env).1 (each-same rs (λ s i. h s (inr i)) env)
 
@@ -38,7 +38,7 @@ module _ (bags others : Family) (count counts : Counts) where
   others-same [] h env = refl
   others-same (r ∷ rs) h env = ap₂ (λ (x y : ℕ). cond (is_F r.kind) 0 x + y) (h r (inl refl) env).1 (others-same rs (λ s i. h s (inr i)) env)
 
-  rows-same : (rs all : List OwnedQuant) → SameBelow rs bags others count counts → SameBelow all bags others count counts → (env : Environment) → under_rows rs all bags count env ≡ under_rows rs all others counts env
+  pub rows-same : (rs all : List OwnedQuant) → SameBelow rs bags others count counts → SameBelow all bags others count counts → (env : Environment) → under_rows rs all bags count env ≡ under_rows rs all others counts env
   rows-same [] all h k env = others-same all k env
   rows-same (r ∷ rs) all h k env =
       let rest : (e : Environment) → under_rows rs all bags count e ≡ under_rows rs all others counts e = λ e. rows-same rs all (λ s i. h s (inr i)) k e in

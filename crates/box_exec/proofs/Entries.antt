@@ -15,7 +15,7 @@ use Rattle.list_laws.specs.Lists.{holds}
 use Rattle.qgm_meaning.specs.Plain.{counted_by}
 use Rattle.box_exec.specs.Costs.{Between, Keeps, asked, is_held}
 use Rattle.box_exec.specs.Kept.{KeptAs, is_nil, kept_costs, kept_number}
-use Rattle.box_exec.specs.declared.source.Source.{Source}
+use Rattle.row_bag.specs.declared.operand.Operand.{Operand}
 use Rattle.box_exec.proofs.Loops.{from}
 use Rattle.box_exec.proofs.Places.{fit-drop}
 use Rattle.list_laws.proofs.Membership.{eq-itself}
@@ -44,7 +44,7 @@ get-end [] y i e = ap (slice_get (y ∷ [])) e
 get-end (x ∷ xs) y zero e = absurd (omega (arith, e))
 get-end (x ∷ xs) y (suc i) e = get-end xs y i (omega (arith, e))
 
-ready-longer : (tables : List Table) (memo : List (Option Source)) (o : Option Source) (ns : List Node) → length ns ≤ length memo → Ready tables memo ns → Ready tables (memo ++ o ∷ []) ns
+ready-longer : (tables : List Table) (memo : List (Option Operand)) (o : Option Operand) (ns : List Node) → length ns ≤ length memo → Ready tables memo ns → Ready tables (memo ++ o ∷ []) ns
 ready-longer tables memo o [] l h = tt
 ready-longer tables memo o (n ∷ ns) l h =
     (h.0, subst (Entry tables n ns) (sym (get-before memo o (length ns) (omega (arith, l)))) h.1, ready-longer tables memo o ns (omega (arith, l)) h.2)
@@ -56,7 +56,7 @@ here ns i j n e l at = from ns i n l ∙ ap (λ (m : Node). m ∷ drop (i + 1) n
 pub fit-here : (ns : List Node) (i j : ℕ) (n : Node) → j ≡ i + 1 → i < length ns → n ≡ get_or ns i n → AllFit ns → Fit n (drop j ns) × AllFit (drop j ns)
 fit-here ns i j n e l at h = subst AllFit (here ns i j n e l at) (fit-drop ns i h)
 
-pub ready-more : (tables : List Table) (memo : List (Option Source)) (o : Option Source) (ns : List Node) (i j : ℕ) (n : Node) → j ≡ i + 1 → i < length ns → n ≡ get_or ns i n → AllFit ns → length memo ≡ length (drop j ns)
+pub ready-more : (tables : List Table) (memo : List (Option Operand)) (o : Option Operand) (ns : List Node) (i j : ℕ) (n : Node) → j ≡ i + 1 → i < length ns → n ≡ get_or ns i n → AllFit ns → length memo ≡ length (drop j ns)
     → Entry tables n (drop j ns) (Some o) → Ready tables memo (drop j ns) → Ready tables (memo ++ o ∷ []) (drop i ns)
 ready-more tables memo o ns i j n e l at fit long entry ready =
     subst (Ready tables (memo ++ o ∷ [])) (sym (here ns i j n e l at)) (
@@ -80,11 +80,11 @@ map-push {Y = Y} f (y ∷ xs) x = ap (λ (zs : List Y). f y ∷ zs) (map-push f 
 
 -- ---- which are kept
 
-keeps-longer : (memo : List (Option Source)) (o : Option Source) (kept : ℕ → Bool) (ns : List Node) → length ns ≤ length memo → Keeps memo kept ns → Keeps (memo ++ o ∷ []) kept ns
+keeps-longer : (memo : List (Option Operand)) (o : Option Operand) (kept : ℕ → Bool) (ns : List Node) → length ns ≤ length memo → Keeps memo kept ns → Keeps (memo ++ o ∷ []) kept ns
 keeps-longer memo o kept [] l h = tt
 keeps-longer memo o kept (n ∷ ns) l h = (ap is_held (get-before memo o (length ns) (omega (arith, l))) ∙ h.0, keeps-longer memo o kept ns (omega (arith, l)) h.1)
 
-pub keeps-more : (memo : List (Option Source)) (o : Option Source) (kept : ℕ → Bool) (ns : List Node) (i j : ℕ) (n : Node) → j ≡ i + 1 → i < length ns → n ≡ get_or ns i n → length memo ≡ length (drop j ns) → is_held (Some o) ≡ kept n.id → Keeps memo kept (drop j ns) → Keeps (memo ++ o ∷ []) kept (drop i ns)
+pub keeps-more : (memo : List (Option Operand)) (o : Option Operand) (kept : ℕ → Bool) (ns : List Node) (i j : ℕ) (n : Node) → j ≡ i + 1 → i < length ns → n ≡ get_or ns i n → length memo ≡ length (drop j ns) → is_held (Some o) ≡ kept n.id → Keeps memo kept (drop j ns) → Keeps (memo ++ o ∷ []) kept (drop i ns)
 keeps-more memo o kept ns i j n e l at long flag h =
     subst (Keeps (memo ++ o ∷ []) kept) (sym (here ns i j n e l at))
     (ap is_held (get-end memo o (length (drop j ns)) (sym long)) ∙ flag, keeps-longer memo o kept (drop j ns) (omega (arith, long)) h)

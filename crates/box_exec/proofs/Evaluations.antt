@@ -17,7 +17,7 @@ use Rattle.qgm_meaning.specs.Meaning.{bag_in}
 use Rattle.qgm_meaning.specs.Plain.{Counts, counted_by, under_each, under_others, under_rows}
 use Rattle.qgm_meaning.specs.Values.{Bag, Environment, bound}
 use Rattle.box_exec.specs.Costs.{Between, Keeps, asked, at_level, costs, is_held}
-use Rattle.box_exec.specs.declared.source.Source.{Source}
+use Rattle.row_bag.specs.declared.operand.Operand.{Operand}
 use Rattle.box_exec.proofs.Loops.{from}
 
 -- ---- the cost of a box
@@ -38,13 +38,13 @@ costs-at tables kept ns b i n env e at =
     ∙ ap (λ (m : Node). counted_by m.parts.kind m (bag_in tables (drop (suc i) ns)) (asked tables kept (drop (suc i) ns)) env) (sym at)
     ∙ ap (λ (k : ℕ). counted_by n.parts.kind n (bag_in tables (drop k ns)) (asked tables kept (drop k ns)) env) (sym (add-one i))
 
-pub keeps-drop : (memo : List (Option Source)) (kept : ℕ → Bool) (ns : List Node) (i : ℕ) → Keeps memo kept ns → Keeps memo kept (drop i ns)
+pub keeps-drop : (memo : List (Option Operand)) (kept : ℕ → Bool) (ns : List Node) (i : ℕ) → Keeps memo kept ns → Keeps memo kept (drop i ns)
 keeps-drop memo kept ns zero h = h
 keeps-drop memo kept [] (suc i) h = h
 keeps-drop memo kept (n ∷ ns) (suc i) h = keeps-drop memo kept ns i h.1
 
 -- a box without kept rows costs what its evaluation costs
-pub keeps-under : (tables : List Table) (memo : List (Option Source)) (ns : List Node) (b i : ℕ) (n : Node) → position (is_box b) ns ≡ Some i → n ≡ get_or ns i n → is_held (slice_get memo (length (drop (i + 1) ns))) ≡ false
+pub keeps-under : (tables : List Table) (memo : List (Option Operand)) (ns : List Node) (b i : ℕ) (n : Node) → position (is_box b) ns ≡ Some i → n ≡ get_or ns i n → is_held (slice_get memo (length (drop (i + 1) ns))) ≡ false
     → (kept : ℕ → Bool) → Keeps memo kept ns
     → Keeps memo kept (drop (i + 1) ns) × ((env : Environment) → asked tables kept ns b env ≡ counted_by n.parts.kind n (bag_in tables (drop (i + 1) ns)) (asked tables kept (drop (i + 1) ns)) env)
 keeps-under tables memo ns b i n e at unheld kept keeps =

@@ -19,7 +19,7 @@ use Rattle.qgm_meaning.specs.Values.{Bag, Environment, all_true, bound, head_cel
 use Rattle.row_bag.specs.Order.{cell_of}
 use Rattle.box_exec.specs.HandedOn.{HandsOn, InOrder, is_wide}
 use Rattle.box_exec.specs.Ready.{Entry, Held, Ready}
-use Rattle.box_exec.specs.declared.source.Source.{Source}
+use Rattle.row_bag.specs.declared.operand.Operand.{Operand}
 use Rattle.box_exec.proofs.Places.{kept-under}
 use Rattle.list_laws.proofs.Membership.{eq-itself}
 
@@ -84,12 +84,12 @@ module _ (tables : List Table) (n : Node) (bag : Family) (r : OwnedQuant) (on : 
 
 -- ---- the entries of a memo
 
-entry-of : (tables : List Table) (n : Node) (ns : List Node) (o : Option (Option Source)) (rows : Bag) → Held o rows → ((env : Environment) → Alike rows (rows_of tables n (bag_in tables ns) env)) → Entry tables n ns o
+entry-of : (tables : List Table) (n : Node) (ns : List Node) (o : Option (Option Operand)) (rows : Bag) → Held o rows → ((env : Environment) → Alike rows (rows_of tables n (bag_in tables ns) env)) → Entry tables n ns o
 entry-of tables n ns None rows e h = tt
 entry-of tables n ns (Some None) rows e h = tt
 entry-of tables n ns (Some (Some s)) rows e h = λ env. subst (λ (b : Bag). Alike b (rows_of tables n (bag_in tables ns) env)) e (h env)
 
-pub handed-entry : (tables : List Table) (memo : List (Option Source)) (n : Node) (ns behind : List Node) (r : OwnedQuant) (i : ℕ) (rows : Bag) → HandsOn n r → position (is_box r.over) ns ≡ Some i → behind ≡ drop (i + 1) ns
+pub handed-entry : (tables : List Table) (memo : List (Option Operand)) (n : Node) (ns behind : List Node) (r : OwnedQuant) (i : ℕ) (rows : Bag) → HandsOn n r → position (is_box r.over) ns ≡ Some i → behind ≡ drop (i + 1) ns
     → Held (slice_get memo (length behind)) rows → is_wide (length n.parts.head) rows ≡ true → Ready tables memo ns → Entry tables n ns (slice_get memo (length behind))
 handed-entry tables memo n ns behind r i rows on e is kept w ready =
     entry-of tables n ns (slice_get memo (length behind)) rows kept

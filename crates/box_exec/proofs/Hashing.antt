@@ -1,5 +1,5 @@
 -- Selects of kept rows, some of which are found by hashes.
-use Rattle.std.proofs.Common.{ℕ, suc, zero, ◌≡◌, ◌<◌, ◌≤◌, ◌+◌, ◌++◌, ◌∷◌, ◌&&◌, ◌==◌, Bool, true, false, All, List, [], Option, Some, get_or, length, slice_get, refl, sym, ap, ap₂, subst, ◌∙◌, ◌⊎◌, inl, inr, arith}
+use Rattle.std.proofs.Common.{ℕ, suc, zero, ◌≡◌, ◌<◌, ◌≤◌, ◌+◌, ◌++◌, ◌∷◌, ◌&&◌, ◌==◌, not, Bool, true, false, All, List, [], Option, Some, get_or, length, slice_get, refl, sym, ap, ap₂, subst, ◌∙◌, ◌⊎◌, inl, inr, arith}
 use Rattle.std.specs.List.{list_any}
 use Rattle.std.proofs.lemmas.Bool.{eq-eqb}
 use Rattle.std.specs.Prelude.{IfSome}
@@ -17,7 +17,7 @@ use Rattle.box_exec.specs.Early.{is_none, is_open, rejects}
 use Rattle.box_exec.specs.Hashed.{AllIdleUnder, AllKept, KeptPlan, LeadsAt, rows_kept}
 use Rattle.box_exec.specs.Indexed.{IsIdleIndex}
 use Rattle.box_exec.specs.declared.idle_index.IdleIndex.{IdleIndex}
-use Rattle.box_exec.specs.Lasting.{AllHashed, HashesAt}
+use Rattle.box_exec.specs.Lasting.{AllKeyed, KeyedAt}
 use Rattle.box_exec.specs.Equalities.{IsKey, other_of, own_of}
 use Rattle.box_exec.specs.Lookup.{Leads, RejectsBy}
 use Rattle.box_exec.specs.Plans.{Bound, family, left_at, tables_of}
@@ -25,11 +25,11 @@ use Rattle.box_exec.specs.Ready.{Stands as Under_stands}
 use Rattle.box_exec.specs.Sources.{held_by}
 use Rattle.box_exec.specs.declared.boxes.At.{At}
 use Rattle.box_exec.specs.declared.early.Early.{Early}
-use Rattle.box_exec.specs.declared.lookup.Hashed.{Hashed}
+use Rattle.box_exec.specs.declared.lookup.Keyed.{Keyed}
 use Rattle.box_exec.specs.declared.key.Key.{Key}
 use Rattle.row_index.specs.declared.ways.Way.{Way}
 use Rattle.box_exec.specs.declared.hashed.Whole.{Whole}
-use Rattle.box_exec.specs.declared.source.Source.{Source}
+use Rattle.row_bag.specs.declared.operand.Operand.{Operand}
 use Rattle.box_exec.specs.declared.under.Loop.{Loop}
 use Rattle.box_exec.specs.declared.under.Under.{Under}
 use Rattle.box_exec.specs.declared.under.Under.TheVariants.{Kept, Open, Nothing}
@@ -41,7 +41,7 @@ use Rattle.list_laws.proofs.Booleans.{neither-left, neither-right}
 
 -- ---- what stands under quantifiers
 
-pub kept-alike : (tables : List Table) (memo : List (Option Source)) (below : List Node) (b : ℕ) (u : Under) → Under_stands tables memo below b u → is_open u ≡ false → (env : Environment) → Alike (rows_kept u) (bag_in tables below b env)
+pub kept-alike : (tables : List Table) (memo : List (Option Operand)) (below : List Node) (b : ℕ) (u : Under) → Under_stands tables memo below b u → is_open u ≡ false → (env : Environment) → Alike (rows_kept u) (bag_in tables below b env)
 kept-alike tables memo below b (Kept rows) s h env = s env
 kept-alike tables memo below b (Open n behind) s h env = absurd (let z : ⊥ = cc in z)
 kept-alike tables memo below b Nothing s h env = alike-same (sym (s env))
@@ -50,6 +50,10 @@ pub none-all : (p : Loop → Bool) (ls : List Loop) → list_any p ls ≡ false 
 none-all p [] h k d l = absurd (omega (arith, l))
 none-all p (x ∷ ls) h zero d l = neither-left (p x) (list_any p ls) h
 none-all p (x ∷ ls) h (suc k) d l = none-all p ls (neither-right (p x) (list_any p ls) h) k d (omega (arith, l))
+
+pub not-true : (b : Bool) → not b ≡ true → b ≡ false
+not-true true h = absurd (let z : ⊥ = cc in z)
+not-true false h = refl
 
 -- ---- a select of kept rows
 
@@ -100,9 +104,9 @@ made-more {X = X} P ls hs new o i l long inside is en made all j m h within it f
           (some-is (λ h. P i l h) o h last.1 made)))
     ]
 
-pub hashed-more : (es : List Early) (ls : List Loop) (hs new : List (Option Hashed)) (o : Option Hashed) (i : ℕ) (l : Loop) → length hs ≡ i → i < length ls → l ≡ get_or ls i l → new ≡ hs ++ o ∷ []
-    → IfSome o (λ h. HashesAt es i l h) → AllHashed es ls hs → AllHashed es ls new
-hashed-more es ls hs new o i l long inside is en made all = made-more (λ i l h. HashesAt es i l h) ls hs new o i l long inside is en made all
+pub keyed-more : (es : List Early) (ls : List Loop) (hs new : List (Option Keyed)) (o : Option Keyed) (i : ℕ) (l : Loop) → length hs ≡ i → i < length ls → l ≡ get_or ls i l → new ≡ hs ++ o ∷ []
+    → IfSome o (λ h. KeyedAt es i l h) → AllKeyed es ls hs → AllKeyed es ls new
+keyed-more es ls hs new o i l long inside is en made all = made-more (λ i l h. KeyedAt es i l h) ls hs new o i l long inside is en made all
 
 pub idle-more : (ls : List Loop) (xs new : List (Option IdleIndex)) (o : Option IdleIndex) (i : ℕ) (l : Loop) → length xs ≡ i → i < length ls → l ≡ get_or ls i l → new ≡ xs ++ o ∷ []
     → IfSome o (λ x. IsIdleIndex (rows_kept l.under) x) → AllIdleUnder ls xs → AllIdleUnder ls new

@@ -29,3 +29,8 @@ mod Quantified
 mod Units
 mod Asking
 mod Seeking
+mod Takings
+mod Turns
+mod Rows
+mod Planned
+mod Ways

@@ -1,7 +1,6 @@
 -- Rows found by hashes: those that are passed over give nothing.
-use Rattle.std.proofs.Common.{ℕ, suc, zero, ◌≡◌, ◌<◌, ◌≤◌, ◌+◌, ◌-◌, ◌++◌, ◌∷◌, ◌||◌, ◌&&◌, not, cond, Bool, true, false, List, [], Option, Some, None, get_or, length, map, option_map, take, refl, sym, ap, ap₂, subst, ◌∙◌, inl, inr, arith}
+use Rattle.std.proofs.Common.{ℕ, suc, zero, ◌≡◌, ◌<◌, ◌≤◌, ◌+◌, ◌-◌, ◌++◌, ◌∷◌, ◌||◌, not, cond, All, Bool, true, false, List, [], Option, Some, None, get_or, length, map, option_map, take, refl, sym, ap, ap₂, subst, ◌∙◌, inl, inr, arith}
 use Rattle.std.specs.Borrow.{Bor}
-use Rattle.std.specs.List.{list_all}
 use Rattle.std.specs.Ordering.{is_eq}
 use Rattle.std.specs.Prelude.{IfSome}
 use Rattle.std.proofs.lemmas.Bool.{and_parts, cases_Bool, cases_lt, eqb-false, or_left, or_right}
@@ -17,7 +16,7 @@ use Rattle.row_bag.proofs.Order.{level}
 use Rattle.row_bag.specs.Bags.{Alike, bind, keep}
 use Rattle.row_bag.specs.Hashes.{hash_of}
 use Rattle.row_bag.specs.declared.row.Row.{Row}
-use Rattle.row_index.specs.Ways.{AreAsMany, Spans, StandsAs, StandsFrom, has_hash, is_marked, place, sees_by}
+use Rattle.row_index.specs.Ways.{AreAsMany, Indexes, Spans, StandsAs, StandsFrom, has_hash, is_marked, place, sees_by}
 use Rattle.row_index.specs.declared.rows.RowIndex.{RowIndex}
 use Rattle.row_index.specs.declared.ways.Cursor.{Cursor}
 use Rattle.row_index.specs.declared.ways.Way.{Way}
@@ -28,12 +27,11 @@ use Rattle.list_laws.proofs.Membership.{all-in}
 use Rattle.qgm_meaning.specs.Values.{Bag, Environment, bound}
 use Rattle.qgm_terms.specs.Shown as shown
 use Rattle.box_exec.specs.Equalities.{are_apart, is_nowhere, is_plain, other_of, others, own_of, owns}
-use Rattle.box_exec.specs.Lookup.{Aims, Hashes, Leads, RejectsBy, Skipped, all_plain, others_plain, row_hash, row_hashes}
+use Rattle.box_exec.specs.Lookup.{Aims, Leads, RejectsBy, Skipped, all_plain, others_plain, row_hash, row_hashes}
 use Rattle.box_exec.specs.declared.key.Equality.{Equality}
 use Rattle.box_exec.specs.declared.key.Equality.TheVariants.{Same, Equal, Numbers, Texts}
 use Rattle.box_exec.specs.declared.key.Key.{Key}
 use Rattle.box_exec.specs.declared.lookup.Aim.TheVariants.{Hash, Nowhere}
-use Rattle.box_exec.specs.declared.lookup.Hashed.{Hashed}
 use Rattle.box_exec.proofs.Loops.{each-more}
 use Rattle.box_exec.proofs.Rejections.{all-at, nothing-added}
 
@@ -44,7 +42,7 @@ in-at [] i x l e = absurd (omega (arith, l))
 in-at (y ∷ xs) zero x l e = inl (sym e)
 in-at (y ∷ xs) (suc i) x l e = inr (in-at xs i x (omega (arith, l)) e)
 
-nowhere-plain : (by : Equality) (y : Cell) → is_nowhere by y ≡ true → is_plain by y ≡ true
+pub nowhere-plain : (by : Equality) (y : Cell) → is_nowhere by y ≡ true → is_plain by y ≡ true
 nowhere-plain Same y h = absurd (let z : ⊥ = cc in z)
 nowhere-plain Equal (Int n) h = refl
 nowhere-plain Equal (Text t) h = refl
@@ -55,9 +53,6 @@ nowhere-plain Texts y h = absurd (let z : ⊥ = cc in z)
 
 unequal-apart : (b c : Bool) → c ≡ false → (b || not c) ≡ true
 unequal-apart b c e = or_right b (not c) (ap not e)
-
-abbrev are-equal : ℕ → List Key → List Cell → Environment → Bool
-are-equal q keys cells env = list_all (λ k. is_eq (cell_compare (own_of q (shown.term k.own.now) cells) (other_of (shown.term k.other.now) env))) keys
 
 -- of keys whose cells aren't all equal, one has cells that are apart
 differs : (q : ℕ) (keys : List Key) (cells : List Cell) (env : Environment) → all_plain q keys cells ≡ true → others_plain keys env ≡ true → (owns q keys cells ≡ others keys env → ⊥)
@@ -80,20 +75,6 @@ differs q (key ∷ keys) cells env h k n =
       | inr f ↦ (key, (inl refl, own.0, other.0, unequal-apart (is_nowhere key.by y) (is_eq (cell_compare x y)) f))
     ]
 
--- of plain cells that aren't all equal, one key rejects
-pub differ-rejects : (test : Environment → Bool) (q : ℕ) (keys : List Key) (cells : List Cell) (env : Environment) → ((k : Key) → In k keys → RejectsBy test q k) → all_plain q keys cells ≡ true → others_plain keys env ≡ true
-    → list_all (λ k. is_eq (cell_compare (own_of q (shown.term k.own.now) cells) (other_of (shown.term k.other.now) env))) keys ≡ false → test (bound q cells env) ≡ true
-differ-rejects test q [] cells env rejects h k n = absurd (let z : ⊥ = cc in z)
-differ-rejects test q (key ∷ keys) cells env rejects h k n =
-    let x = own_of q (shown.term key.own.now) cells in
-    let y = other_of (shown.term key.other.now) env in
-    let own = and_parts (is_plain key.by x) (all_plain q keys cells) h in
-    let other = and_parts (is_plain key.by y) (others_plain keys env) k in
-    elim (cases_Bool (is_eq (cell_compare x y))) [
-      | inl t ↦ differ-rejects test q keys cells env (λ d i. rejects d (inr i)) own.1 other.1 (sym (ap (λ (b : Bool). b && are-equal q keys cells env) t) ∙ n)
-      | inr f ↦ rejects key (inl refl) cells env own.0 other.0 (unequal-apart (is_nowhere key.by y) (is_eq (cell_compare x y)) f)
-    ]
-
 -- ---- rows that an index knows
 
 pub row-at : (f : Row (List Cell) → Option ℕ) (rows : Bag) (k : ℕ) (r : Row (List Cell)) → k < length rows → r ≡ get_or rows k r → f r ≡ get_or (map f rows) k (f r)
@@ -110,34 +91,38 @@ unmarked q keys ix k cells stands free =
       | false ↦ λ h. absurd (let z : ⊥ = cc in z)
     ] stands
 
-module _ (test : Environment → Bool) (q : ℕ) (rows : List (Row (List Cell))) (env : Environment) (h : Hashed) (is : Hashes test q rows h) where
-  known : (k : ℕ) (r : Row (List Cell)) → k < length rows → r ≡ get_or rows k r → is_marked h.index.marks k ≡ false → (all_plain q h.keys.items r.cells ≡ true) × (get_or h.index.hashes k 0 ≡ hash_of (owns q h.keys.items r.cells))
+-- keys by which a test rejects, and an index of rows by them
+abbrev pub IsIndex : (Environment → Bool) → ℕ → List (Row (List Cell)) → List Key → RowIndex → Type 0
+IsIndex test q rows keys ix = All (λ k. RejectsBy test q k) keys × Indexes (row_hashes q keys rows) ix
+
+module _ (test : Environment → Bool) (q : ℕ) (rows : List (Row (List Cell))) (env : Environment) (keys : List Key) (ix : RowIndex) (is : IsIndex test q rows keys ix) where
+  known : (k : ℕ) (r : Row (List Cell)) → k < length rows → r ≡ get_or rows k r → is_marked ix.marks k ≡ false → (all_plain q keys r.cells ≡ true) × (get_or ix.hashes k 0 ≡ hash_of (owns q keys r.cells))
   known k r l at free =
-      let f = λ (r : Row (List Cell)). row_hash q h.keys.items r.cells in
-      let many : length (row_hashes q h.keys.items rows) ≡ length rows = length-map rows f in
-      unmarked q h.keys.items h.index k r.cells (is.1.each k (f r) (omega (arith, many, l)) (row-at f rows k r l at)) free
+      let f = λ (r : Row (List Cell)). row_hash q keys r.cells in
+      let many : length (row_hashes q keys rows) ≡ length rows = length-map rows f in
+      unmarked q keys ix k r.cells (is.1.each k (f r) (omega (arith, many, l)) (row-at f rows k r l at)) free
 
   -- a row that is not marked and has another hash is rejected
-  other-skipped : (hash k : ℕ) → others_plain h.keys.items env ≡ true → hash ≡ hash_of (others h.keys.items env) → has_hash (Some hash) h.index.hashes k ≡ false → is_marked h.index.marks k ≡ false → Skipped test q rows env k
+  other-skipped : (hash k : ℕ) → others_plain keys env ≡ true → hash ≡ hash_of (others keys env) → has_hash (Some hash) ix.hashes k ≡ false → is_marked ix.marks k ≡ false → Skipped test q rows env k
   other-skipped hash k plain eh other free r l at =
       let row = known k r l at free in
-      let found = differs q h.keys.items r.cells env row.0 plain
-      (λ same. eqb-false (get_or h.index.hashes k 0) hash other (row.1 ∙ ap hash_of same ∙ sym eh)) in
-      all-at (RejectsBy test q) found.0 h.keys.items is.0 found.1.0 r.cells env found.1.1 found.1.2 found.1.3
+      let found = differs q keys r.cells env row.0 plain
+      (λ same. eqb-false (get_or ix.hashes k 0) hash other (row.1 ∙ ap hash_of same ∙ sym eh)) in
+      all-at (RejectsBy test q) found.0 keys is.0 found.1.0 r.cells env found.1.1 found.1.2 found.1.3
 
   -- where an equality is nowhere true, all that aren't marked are
-  nowhere-skipped : (k : ℕ) (key : Key) → In key h.keys.items → is_nowhere key.by (other_of (shown.term key.other.now) env) ≡ true → is_marked h.index.marks k ≡ false → Skipped test q rows env k
+  nowhere-skipped : (k : ℕ) (key : Key) → In key keys → is_nowhere key.by (other_of (shown.term key.other.now) env) ≡ true → is_marked ix.marks k ≡ false → Skipped test q rows env k
   nowhere-skipped k key i none free r l at =
       let row = known k r l at free in
       let y = other_of (shown.term key.other.now) env in
-      all-at (RejectsBy test q) key h.keys.items is.0 i r.cells env
-      (all-in (λ (k : Key). is_plain k.by (own_of q (shown.term k.own.now) r.cells)) key h.keys.items row.0 i) (nowhere-plain key.by y none)
+      all-at (RejectsBy test q) key keys is.0 i r.cells env
+      (all-in (λ (k : Key). is_plain k.by (own_of q (shown.term k.own.now) r.cells)) key keys row.0 i) (nowhere-plain key.by y none)
       (or_left (is_nowhere key.by y) (not (is_eq (cell_compare (own_of q (shown.term key.own.now) r.cells) y))) none)
 
-  spanned : (length h.index.hashes ≡ length rows) × AreAsMany h.index.marks (length rows)
+  spanned : (length ix.hashes ≡ length rows) × AreAsMany ix.marks (length rows)
   spanned =
-      let many : length (row_hashes q h.keys.items rows) ≡ length rows = length-map rows (λ (r : Row (List Cell)). row_hash q h.keys.items r.cells) in
-      (is.1.hashes ∙ many, subst (λ (n : ℕ). AreAsMany h.index.marks n) many is.1.marks)
+      let many : length (row_hashes q keys rows) ≡ length rows = length-map rows (λ (r : Row (List Cell)). row_hash q keys r.cells) in
+      (is.1.hashes ∙ many, subst (λ (n : ℕ). AreAsMany ix.marks n) many is.1.marks)
 
 -- ---- rows that are passed over
 
@@ -173,34 +158,34 @@ jumped-to level rows f old out i j le none h =
 -- ---- ways
 
 -- by an index
-pub leads-index : (test : Environment → Bool) (q : ℕ) (rows : List (Row (List Cell))) (env : Environment) (h : Hashed) → Hashes test q rows h → (w : Way) → w.end ≡ length rows → option_map (λ (ix : Bor RowIndex). ix.now) w.index ≡ Some h.index
-    → ((k : ℕ) → has_hash w.hash h.index.hashes k ≡ false → is_marked h.index.marks k ≡ false → Skipped test q rows env k) → Leads test q rows env w
-leads-index test q rows env h is w e ei skips = by w.index ei refl
+pub leads-index : (test : Environment → Bool) (q : ℕ) (rows : List (Row (List Cell))) (env : Environment) (keys : List Key) (ix : RowIndex) → IsIndex test q rows keys ix → (w : Way) → w.end ≡ length rows → option_map (λ (ix : Bor RowIndex). ix.now) w.index ≡ Some ix
+    → ((k : ℕ) → has_hash w.hash ix.hashes k ≡ false → is_marked ix.marks k ≡ false → Skipped test q rows env k) → Leads test q rows env w
+leads-index test q rows env keys ix is w e ei skips = by w.index ei refl
   where
-    by : (o : Option (Bor RowIndex)) → option_map (λ (ix : Bor RowIndex). ix.now) o ≡ Some h.index → w.index ≡ o → Leads test q rows env w
+    by : (o : Option (Bor RowIndex)) → option_map (λ (ix : Bor RowIndex). ix.now) o ≡ Some ix → w.index ≡ o → Leads test q rows env w
     by None g k = absurd (let z : ⊥ = cc in z)
-    by (Some ix) g k =
-        let same : ix.now ≡ h.index = cc in
+    by (Some x) g k =
+        let same : x.now ≡ ix = cc in
         record {
           end = e;
-          spans = subst (λ (o : Option (Bor RowIndex)). Spans o w.end) (sym k) (subst (λ (x : RowIndex). (length x.hashes ≡ w.end) × AreAsMany x.marks w.end) (sym same) (subst (λ (n : ℕ). (length h.index.hashes ≡ n) × AreAsMany h.index.marks n) (sym e) (spanned test q rows env h is)));
+          spans = subst (λ (o : Option (Bor RowIndex)). Spans o w.end) (sym k) (subst (λ (y : RowIndex). (length y.hashes ≡ w.end) × AreAsMany y.marks w.end) (sym same) (subst (λ (n : ℕ). (length ix.hashes ≡ n) × AreAsMany ix.marks n) (sym e) (spanned test q rows env keys ix is)));
           passed = λ p unseen.
-              let no : (has_hash w.hash ix.now.hashes p || is_marked ix.now.marks p) ≡ false = subst (λ (o : Option (Bor RowIndex)). sees_by o w.hash p ≡ false) k unseen in
-              skips p (subst (λ (x : RowIndex). has_hash w.hash x.hashes p ≡ false) same (neither-left (has_hash w.hash ix.now.hashes p) (is_marked ix.now.marks p) no))
-              (subst (λ (x : RowIndex). is_marked x.marks p ≡ false) same (neither-right (has_hash w.hash ix.now.hashes p) (is_marked ix.now.marks p) no));
+              let no : (has_hash w.hash x.now.hashes p || is_marked x.now.marks p) ≡ false = subst (λ (o : Option (Bor RowIndex)). sees_by o w.hash p ≡ false) k unseen in
+              skips p (subst (λ (y : RowIndex). has_hash w.hash y.hashes p ≡ false) same (neither-left (has_hash w.hash x.now.hashes p) (is_marked x.now.marks p) no))
+              (subst (λ (y : RowIndex). is_marked y.marks p ≡ false) same (neither-right (has_hash w.hash x.now.hashes p) (is_marked x.now.marks p) no));
         }
 
 -- to the rows of a hash
-pub leads-hash : (test : Environment → Bool) (q : ℕ) (rows : List (Row (List Cell))) (env : Environment) (h : Hashed) → Hashes test q rows h → (w : Way) (hash : ℕ) → w.end ≡ length rows → option_map (λ (ix : Bor RowIndex). ix.now) w.index ≡ Some h.index
-    → w.hash ≡ Some hash → Aims h.keys.items env (Hash hash) → Leads test q rows env w
-leads-hash test q rows env h is w hash e ei eh aims =
-    leads-index test q rows env h is w e ei (λ k other free. other-skipped test q rows env h is hash k aims.0 aims.1 (subst (λ (o : Option ℕ). has_hash o h.index.hashes k ≡ false) eh other) free)
+pub leads-hash : (test : Environment → Bool) (q : ℕ) (rows : List (Row (List Cell))) (env : Environment) (keys : List Key) (ix : RowIndex) → IsIndex test q rows keys ix → (w : Way) (hash : ℕ) → w.end ≡ length rows → option_map (λ (ix : Bor RowIndex). ix.now) w.index ≡ Some ix
+    → w.hash ≡ Some hash → Aims keys env (Hash hash) → Leads test q rows env w
+leads-hash test q rows env keys ix is w hash e ei eh aims =
+    leads-index test q rows env keys ix is w e ei (λ k other free. other-skipped test q rows env keys ix is hash k aims.0 aims.1 (subst (λ (o : Option ℕ). has_hash o ix.hashes k ≡ false) eh other) free)
 
 -- to those that are marked alone
-pub leads-nowhere : (test : Environment → Bool) (q : ℕ) (rows : List (Row (List Cell))) (env : Environment) (h : Hashed) → Hashes test q rows h → (w : Way) → w.end ≡ length rows → option_map (λ (ix : Bor RowIndex). ix.now) w.index ≡ Some h.index
-    → Aims h.keys.items env Nowhere → Leads test q rows env w
-leads-nowhere test q rows env h is w e ei aims =
-    leads-index test q rows env h is w e ei (λ k other free. nowhere-skipped test q rows env h is k aims.0 aims.1.0 aims.1.1 free)
+pub leads-nowhere : (test : Environment → Bool) (q : ℕ) (rows : List (Row (List Cell))) (env : Environment) (keys : List Key) (ix : RowIndex) → IsIndex test q rows keys ix → (w : Way) → w.end ≡ length rows → option_map (λ (ix : Bor RowIndex). ix.now) w.index ≡ Some ix
+    → Aims keys env Nowhere → Leads test q rows env w
+leads-nowhere test q rows env keys ix is w e ei aims =
+    leads-index test q rows env keys ix is w e ei (λ k other free. nowhere-skipped test q rows env keys ix is k aims.0 aims.1.0 aims.1.1 free)
 
 -- to all
 pub leads-all : (test : Environment → Bool) (q : ℕ) (rows : List (Row (List Cell))) (env : Environment) (w : Way) → w.end ≡ length rows → w.index ≡ None → Leads test q rows env w

@@ -13,9 +13,10 @@ use Rattle.row_bag.specs.Bags.{Alike}
 use Rattle.box_exec.specs.Lasting.{AllPlanned}
 use Rattle.box_exec.specs.Ready.{AllFit, Entry, Fit, Held, IsOpen, Ready, weight}
 use Rattle.box_exec.specs.declared.plan.Plan.{Plan}
-use Rattle.box_exec.specs.declared.source.Source.{Source}
+use Rattle.row_bag.specs.declared.operand.Operand.{Operand}
 use Rattle.box_exec.specs.Costs.{is_held}
 use Rattle.box_exec.proofs.Evaluations.{keeps-under}
+use Rattle.box_exec.proofs.Takings.{ordered-at, seek-at, takes-under}
 use Rattle.box_exec.proofs.Loops.{from}
 
 pub not-there : (ns : List Node) (b : ℕ) → position (is_box b) ns ≡ None → has_box ns b ≡ false
@@ -56,22 +57,22 @@ fit-drop ns zero h = h
 fit-drop [] (suc i) h = h
 fit-drop (n ∷ ns) (suc i) h = fit-drop ns i h.1
 
-ready-drop : (tables : List Table) (memo : List (Option Source)) (ns : List Node) (i : ℕ) → Ready tables memo ns → Ready tables memo (drop i ns)
+ready-drop : (tables : List Table) (memo : List (Option Operand)) (ns : List Node) (i : ℕ) → Ready tables memo ns → Ready tables memo (drop i ns)
 ready-drop tables memo ns zero h = h
 ready-drop tables memo [] (suc i) h = h
 ready-drop tables memo (n ∷ ns) (suc i) h = ready-drop tables memo ns i h.2
 
-pub ready-at : (tables : List Table) (memo : List (Option Source)) (ns : List Node) (i : ℕ) (n : Node) → i < length ns → n ≡ get_or ns i n → Ready tables memo ns
+pub ready-at : (tables : List Table) (memo : List (Option Operand)) (ns : List Node) (i : ℕ) (n : Node) → i < length ns → n ≡ get_or ns i n → Ready tables memo ns
     → Fit n (drop (i + 1) ns) × Entry tables n (drop (i + 1) ns) (slice_get memo (length (drop (i + 1) ns))) × Ready tables memo (drop (i + 1) ns)
 ready-at tables memo ns i n l at h =
     subst (Ready tables memo) (from ns i n l ∙ ap (λ (m : Node). m ∷ drop (i + 1) ns) (sym at)) (ready-drop tables memo ns i h)
 
-plans-drop : (memo : List (Option Source)) (plans : List (Option Plan)) (ns : List Node) (i : ℕ) → AllPlanned memo plans ns → AllPlanned memo plans (drop i ns)
+plans-drop : (memo : List (Option Operand)) (plans : List (Option Plan)) (ns : List Node) (i : ℕ) → AllPlanned memo plans ns → AllPlanned memo plans (drop i ns)
 plans-drop memo plans ns zero h = h
 plans-drop memo plans [] (suc i) h = h
 plans-drop memo plans (n ∷ ns) (suc i) h = plans-drop memo plans ns i h.1
 
-plans-at : (memo : List (Option Source)) (plans : List (Option Plan)) (ns : List Node) (i : ℕ) (n : Node) → i < length ns → n ≡ get_or ns i n → AllPlanned memo plans ns → AllPlanned memo plans (n ∷ drop (i + 1) ns)
+plans-at : (memo : List (Option Operand)) (plans : List (Option Plan)) (ns : List Node) (i : ℕ) (n : Node) → i < length ns → n ≡ get_or ns i n → AllPlanned memo plans ns → AllPlanned memo plans (n ∷ drop (i + 1) ns)
 plans-at memo plans ns i n l at h =
     subst (AllPlanned memo plans) (from ns i n l ∙ ap (λ (m : Node). m ∷ drop (i + 1) ns) (sym at)) (plans-drop memo plans ns i h)
 
@@ -94,15 +95,15 @@ nothing-under tables ns b e env = ap (λ (f : Environment → Bag). f env) (rank
 pub bag-at : (tables : List Table) (ns : List Node) (b i : ℕ) (n : Node) → position (is_box b) ns ≡ Some i → n ≡ get_or ns i n → (env : Environment) → bag_in tables ns b env ≡ rows_of tables n (bag_in tables (drop (i + 1) ns)) env
 bag-at tables ns b i n e at env = ap (λ (f : Environment → Bag). f env) (rank-at (λ env. []) (rows_of tables) ns b i n e at)
 
-pub open-under : (tables : List Table) (memo : List (Option Source)) (ns behind : List Node) (b i : ℕ) (n : Node) → position (is_box b) ns ≡ Some i → n ≡ get_or ns i n → behind ≡ drop (i + 1) ns → is_held (slice_get memo (length behind)) ≡ false → Ready tables memo ns
+pub open-under : (tables : List Table) (memo : List (Option Operand)) (ns behind : List Node) (b i : ℕ) (n : Node) → position (is_box b) ns ≡ Some i → n ≡ get_or ns i n → behind ≡ drop (i + 1) ns → is_held (slice_get memo (length behind)) ≡ false → Ready tables memo ns
     → IsOpen tables memo ns b n behind
 open-under tables memo ns behind b i n e at is unheld ready =
     let free : is_held (slice_get memo (length (drop (i + 1) ns))) ≡ false = subst (λ (ms : List Node). is_held (slice_get memo (length ms)) ≡ false) is unheld in
     let l = inside ns b i n e in
     let h = ready-at tables memo ns i n l at ready in
-    subst (IsOpen tables memo ns b n) (sym is) (record { bag = bag-at tables ns b i n e at; fit = h.0; ready = h.2; less = weight-at ns i n l at; plans = λ ps. plans-at memo ps ns i n l at; keeps = keeps-under tables memo ns b i n e at free })
+    subst (IsOpen tables memo ns b n) (sym is) (record { bag = bag-at tables ns b i n e at; fit = h.0; ready = h.2; less = weight-at ns i n l at; plans = λ ps. plans-at memo ps ns i n l at; keeps = keeps-under tables memo ns b i n e at free; seeks = λ kept ps. seek-at kept ps ns i n l at; takes = takes-under tables memo ns b i n e at free; ordered = ordered-at ns i n l at })
 
-pub entry-holds : (tables : List Table) (n : Node) (ns : List Node) (o : Option (Option Source)) (rows : Bag) (env : Environment) → Entry tables n ns o → Held o rows → Alike rows (rows_of tables n (bag_in tables ns) env)
+pub entry-holds : (tables : List Table) (n : Node) (ns : List Node) (o : Option (Option Operand)) (rows : Bag) (env : Environment) → Entry tables n ns o → Held o rows → Alike rows (rows_of tables n (bag_in tables ns) env)
 entry-holds tables n ns None rows env h e = absurd e
 entry-holds tables n ns (Some None) rows env h e = absurd e
 entry-holds tables n ns (Some (Some s)) rows env h e = subst (λ (b : Bag). Alike b (rows_of tables n (bag_in tables ns) env)) (sym e) (h env)
@@ -112,7 +113,7 @@ own [] i d l = absurd (omega (arith, l))
 own (x ∷ xs) zero d l = refl
 own (x ∷ xs) (suc i) d l = own xs i d (omega (arith, l))
 
-kept-at : (tables : List Table) (memo : List (Option Source)) (ns behind : List Node) (b i : ℕ) (rows : Bag) (d : Node) → position (is_box b) ns ≡ Some i → behind ≡ drop (i + 1) ns → Ready tables memo ns → Held (slice_get memo (length behind)) rows
+kept-at : (tables : List Table) (memo : List (Option Operand)) (ns behind : List Node) (b i : ℕ) (rows : Bag) (d : Node) → position (is_box b) ns ≡ Some i → behind ≡ drop (i + 1) ns → Ready tables memo ns → Held (slice_get memo (length behind)) rows
     → (env : Environment) → Alike rows (bag_in tables ns b env)
 kept-at tables memo ns behind b i rows d e is ready held env =
     let l = inside ns b i d e in
@@ -121,7 +122,7 @@ kept-at tables memo ns behind b i rows d e is ready held env =
     subst (Alike rows) (sym (bag-at tables ns b i n e (own ns i d l) env))
     (entry-holds tables n (drop (i + 1) ns) (slice_get memo (length (drop (i + 1) ns))) rows env h.1 (subst (λ (ms : List Node). Held (slice_get memo (length ms)) rows) is held))
 
-pub kept-under : (tables : List Table) (memo : List (Option Source)) (ns behind : List Node) (b i : ℕ) (rows : Bag) → position (is_box b) ns ≡ Some i → behind ≡ drop (i + 1) ns → Ready tables memo ns → Held (slice_get memo (length behind)) rows
+pub kept-under : (tables : List Table) (memo : List (Option Operand)) (ns behind : List Node) (b i : ℕ) (rows : Bag) → position (is_box b) ns ≡ Some i → behind ≡ drop (i + 1) ns → Ready tables memo ns → Held (slice_get memo (length behind)) rows
     → (env : Environment) → Alike rows (bag_in tables ns b env)
 kept-under tables memo [] behind b i rows e = absurd (let z : ⊥ = cc in z)
 kept-under tables memo (n ∷ ns) behind b i rows e = kept-at tables memo (n ∷ ns) behind b i rows n e

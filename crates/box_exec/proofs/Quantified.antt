@@ -35,6 +35,10 @@ idle-there false test cells Division h = ap (counted false Division) h
 idle-there false test cells Overflow h = ap (counted false Overflow) h
 idle-there false test cells Yes h = ap (counted false Yes) h
 
+pub quantified-none : (holds : Bool) (test : List Cell → Truth) → quantified holds test [] ≡ truth_of holds
+quantified-none false test = refl
+quantified-none true test = refl
+
 idle-row : (holds : Bool) (test : List Cell → Truth) (r : Row (List Cell)) (rows : List (Row (List Cell))) → test r.cells ≡ truth_of holds → quantified holds test (r ∷ rows) ≡ quantified holds test rows
 idle-row false test r rows h = ap (λ (x : Truth). t.or x (some test rows)) (idle-there false test r.cells r.level h) ∙ or-unit (some test rows)
 idle-row true test r rows h = ap (λ (x : Truth). t.and x (every test rows)) (idle-there true test r.cells r.level h) ∙ and-unit (every test rows)

@@ -1,12 +1,12 @@
 -- The rows of the root.
-use Rattle.std.proofs.Common.{ℕ, suc, zero, ◌≡◌, ◌<◌, ◌+◌, Bool, true, false, cond, List, [], ◌∷◌, add-one, arith, length, drop, get_or, position, Some, None, refl, sym, ◌∙◌, ap, ap₂, subst}
+use Rattle.std.proofs.Common.{ℕ, suc, zero, ◌≡◌, ◌<◌, ◌≤◌, ◌+◌, Bool, true, false, cond, List, [], ◌∷◌, add-one, arith, length, drop, get_or, position, Some, None, refl, sym, ◌∙◌, ap, ap₂, subst}
 use Rattle.row_bag.specs.Bags.{Agree, Alike}
 use Rattle.row_bag.specs.Sets.{same_cells}
 use Rattle.row_bag.specs.declared.tables.Table.{Table}
 use Rattle.row_bag.proofs.Agreement.{alike-same, alike-trans}
 use Rattle.row_bag.proofs.Counts.{agree-from_alike}
 use Rattle.std.proofs.lemmas.List.Quantifiers.{position-Some}
-use Rattle.qgm_core.specs.Boxes.{has_box, is_box}
+use Rattle.qgm_core.specs.Boxes.{Ordered, has_box, is_box}
 use Rattle.qgm_core.specs.Free.{reached}
 use Rattle.qgm_core.specs.declared.node.Node.{Node}
 use Rattle.qgm_meaning.specs.Meaning.{bag_in, rows_of}
@@ -16,7 +16,10 @@ use Rattle.box_exec.proofs.Entries.{fit-here}
 use Rattle.qgm_meaning.specs.Plain.{counted_by}
 use Rattle.box_exec.specs.Costs.{Between, asked, costs}
 use Rattle.box_exec.specs.Kept.{KeptAs, behind, kept_costs, kept_number}
+use Rattle.box_exec.specs.Taken.{taken_by}
+use Rattle.box_exec.specs.Takings.{asked_takings, kept_takings, takings}
 use Rattle.box_exec.proofs.Evaluations.{costs-at}
+use Rattle.box_exec.proofs.Takings.{ordered-at, takings-at}
 use Rattle.box_exec.proofs.Places.{bag-at, fit-drop, inside, not-there, nothing-under}
 
 module _ (boxes nodes : List Node) (root r : ℕ) (same : nodes ≡ boxes) (named : r ≡ root) where
@@ -64,3 +67,19 @@ module _ (boxes nodes : List Node) (root r : ℕ) (same : nodes ≡ boxes) (name
         subst (KeptAs kept marks) rest (subst (λ (ms : List ℕ). KeptAs kept ms (behind root boxes)) same_marks how),
         λ x y z h k. (omega (arith, h.0, k.0, number), omega (arith, h.1, k.1, own, cost)),
       )
+
+  pub root-takes : (tables : List Table) (i : ℕ) (n : Node) (bs : List Node) (marks : List ℕ) (kept : ℕ → Bool) → position (is_box r) nodes ≡ Some i → n ≡ get_or nodes i n → bs ≡ drop (i + 1) nodes → marks ≡ reached (r ∷ []) nodes → KeptAs kept (reached (root ∷ []) boxes) (behind root boxes)
+      → KeptAs kept marks bs × ((x y z : ℕ) → Between 0 (kept_takings tables kept bs) x y → Between 0 (taken_by kept n.parts.kind n (bag_in tables bs) (asked_takings tables kept bs) []) y z
+      → z ≤ x + (takings tables kept boxes root [] + kept_takings tables kept (behind root boxes)))
+  root-takes tables i n bs marks kept e at is marked how =
+      let rest : behind root boxes ≡ bs = sym (ap₂ behind named same) ∙ behind-at nodes r i n e ∙ sym is in
+      let same_marks : reached (root ∷ []) boxes ≡ marks = sym (marked ∙ ap₂ (λ (b : ℕ) (ns : List Node). reached (b ∷ []) ns) named same) in
+      let own : takings tables kept boxes root [] ≡ taken_by kept n.parts.kind n (bag_in tables bs) (asked_takings tables kept bs) [] =
+      sym (ap₂ (λ (ns : List Node) (b : ℕ). takings tables kept ns b []) same named) ∙ takings-at tables kept nodes r i n [] e at ∙ ap (λ (ns : List Node). taken_by kept n.parts.kind n (bag_in tables ns) (asked_takings tables kept ns) []) (sym is) in
+      let cost : kept_takings tables kept (behind root boxes) ≡ kept_takings tables kept bs = ap (kept_takings tables kept) rest in (
+        subst (KeptAs kept marks) rest (subst (λ (ms : List ℕ). KeptAs kept ms (behind root boxes)) same_marks how),
+        λ x y z h k. omega (arith, h.1, k.1, own, cost),
+      )
+
+  pub root-ordered : (i : ℕ) (n : Node) (bs : List Node) → position (is_box r) nodes ≡ Some i → n ≡ get_or nodes i n → bs ≡ drop (i + 1) nodes → Ordered boxes → Ordered (n ∷ bs)
+  root-ordered i n bs e at is ordered = subst (λ (ms : List Node). Ordered (n ∷ ms)) (sym is) (ordered-at nodes i n (inside nodes r i n e) at (subst Ordered (sym same) ordered))

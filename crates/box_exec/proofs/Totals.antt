@@ -29,15 +29,15 @@ closed-if : (xs : List ℕ) (x : ℕ) → cond (is_nil xs) x 0 ≡ if_closed xs 
 closed-if [] x = refl
 closed-if (y ∷ xs) x = refl
 
-none-more : (x : ℕ) → 0 + x ≡ x
+pub none-more : (x : ℕ) → 0 + x ≡ x
 none-more x = omega arith
 
 module _ (tables : List Table) (g : QueryGraph) (w : NamesBound g) where
-  abbrev marks : List ℕ
+  abbrev pub marks : List ℕ
   marks = reached (g.root ∷ []) g.boxes
 
   -- the boxes that are kept, the root with them
-  abbrev kept : ℕ → Bool
+  abbrev pub kept : ℕ → Bool
   kept b = is_nil (beyond g.boxes b) && holds b marks
 
   -- one evaluation of a box over what is counted below it
@@ -47,19 +47,19 @@ module _ (tables : List Table) (g : QueryGraph) (w : NamesBound g) where
   reached-from : (b : ℕ) → holds b marks ≡ true → Reaches g.boxes g.root b
   reached-from b h = (reached-reaches g.boxes w.ordered g.root b).0 h
 
-  kept-on : (b : ℕ) → holds b marks ≡ true → kept b ≡ is_nil (free_in g.boxes b)
+  pub kept-on : (b : ℕ) → holds b marks ≡ true → kept b ≡ is_nil (free_in g.boxes b)
   kept-on b h = ap (λ (t : Bool). is_nil (beyond g.boxes b) && t) h ∙ and-true (is_nil (beyond g.boxes b)) ∙ nil-alike g w b (reached-from b h)
 
-  kept-off : (b : ℕ) → holds b marks ≡ false → kept b ≡ false
+  pub kept-off : (b : ℕ) → holds b marks ≡ false → kept b ≡ false
   kept-off b h = ap (λ (t : Bool). is_nil (beyond g.boxes b) && t) h ∙ and-false (is_nil (beyond g.boxes b))
 
   root-marked : holds g.root marks ≡ true
   root-marked = (reached-reaches g.boxes w.ordered g.root g.root).1 (itself g.root)
 
-  root-kept : kept g.root ≡ true
+  pub root-kept : kept g.root ≡ true
   root-kept = ap₂ (λ (xs : List ℕ) (t : Bool). is_nil xs && t) w.top root-marked
 
-  under-marked : (n : Node) (r : OwnedQuant) → In n g.boxes → holds n.id marks ≡ true → In r n.quants → holds r.over marks ≡ true
+  pub under-marked : (n : Node) (r : OwnedQuant) → In n g.boxes → holds n.id marks ≡ true → In r n.quants → holds r.over marks ≡ true
   under-marked n r i h j = in-holds r.over marks (closes (g.root ∷ []) g.boxes w.ordered n r i (holds-in n.id marks h) j)
 
   -- ---- one evaluation of a box
@@ -117,7 +117,7 @@ module _ (tables : List Table) (g : QueryGraph) (w : NamesBound g) where
   ]) (sums-number ns)
 
   -- a box that stands before the root isn't reached
-  before-off : (m : Node) (ns : List Node) → Tail g.boxes (m ∷ ns) → has_box ns g.root ≡ true → kept m.id ≡ false
+  pub before-off : (m : Node) (ns : List Node) → Tail g.boxes (m ∷ ns) → has_box ns g.root ≡ true → kept m.id ≡ false
   before-off m ns t h = kept-off m.id (elim (cases_Bool (holds m.id marks)) [
     | inr f ↦ f
     | inl y ↦ absurd (not-up g.boxes ns m t w.ordered g.root h (reached-from m.id y))
@@ -153,14 +153,14 @@ module _ (tables : List Table) (g : QueryGraph) (w : NamesBound g) where
 
   -- ---- the execution
 
-  tail-behind : (ns : List Node) → Tail g.boxes ns → Tail g.boxes (behind g.root ns)
+  pub tail-behind : (ns : List Node) → Tail g.boxes ns → Tail g.boxes (behind g.root ns)
   tail-behind [] t = t
   tail-behind (m ∷ ns) t = elim (m.id == g.root) as (λ k. Tail g.boxes (cond k ns (behind g.root ns))) [
     | true ↦ behind-one g.boxes m ns t
     | false ↦ tail-behind ns (behind-one g.boxes m ns t)
   ]
 
-  kept-as : (ns : List Node) → Tail g.boxes ns → KeptAs kept marks ns
+  pub kept-as : (ns : List Node) → Tail g.boxes ns → KeptAs kept marks ns
   kept-as [] t = tt
   kept-as (n ∷ ns) t = (
     ap (λ (xs : List ℕ). is_nil xs && holds n.id marks) (sym (tail-rank [] beyond_of g.boxes (n ∷ ns) t w.ordered n.id (in-has n (n ∷ ns) (inl refl))) ∙ at-head [] beyond_of n ns),

@@ -1,27 +1,17 @@
 -- Keys as they are found and indexed, against the equalities that conditions are.
-use Rattle.std.specs.Prelude.{ℕ, suc, ◌≡◌, ◌<◌, ◌+◌, ◌++◌, ◌==◌, ◌&&◌, ◌||◌, not, nat_lt, if◌then◌else◌, Bool, true, false, List, [], ◌∷◌, Option, Some, None, filter, get_or, length, map, slice_get, take}
-use Rattle.std.specs.List.{flat_map, list_all, list_any}
-use Rattle.std.specs.Ordering.{is_eq}
-use Rattle.sql_value.specs.Cells.{cell_compare}
-use Rattle.sql_value.specs.declared.cell.Cell.{Cell}
+use Rattle.std.specs.Prelude.{ℕ, suc, ◌≡◌, ◌<◌, ◌+◌, ◌++◌, ◌==◌, not, if◌then◌else◌, true, List, [], ◌∷◌, Option, Some, None, filter, get_or, length, map, slice_get}
+use Rattle.std.specs.List.{flat_map}
 use Rattle.qgm_core.specs.Kinds.{is_F}
 use Rattle.qgm_core.specs.declared.node.Node.{Node}
 use Rattle.qgm_core.specs.declared.owned.OwnedQuant.{OwnedQuant}
-use Rattle.qgm_meaning.specs.Values.{Environment}
 use Rattle.qgm_terms.specs.Shown.{cond, term}
 use Rattle.qgm_terms.specs.Terms.{Cond, Term}
-use Rattle.row_bag.specs.declared.row.Row.{Row}
-use Rattle.row_index.specs.Ways.{sees}
-use Rattle.row_index.specs.declared.ways.Way.{Way}
-use Rattle.box_exec.specs.Early.{is_open, names_any, reads_any}
-use Rattle.box_exec.specs.Equalities.{other_of, own_of}
-use Rattle.box_exec.specs.Lasting.{rows_kept}
-use Rattle.box_exec.specs.Lookup.{all_plain, any_nowhere, others_plain}
-use Rattle.box_exec.specs.Taken.{Match, matched, one_way, takes}
+use Rattle.box_exec.specs.Early.{names_any, reads_any}
+use Rattle.box_exec.specs.Taken.{Match, matched, one_way}
 use Rattle.box_exec.specs.declared.early.Early.{Early}
 use Rattle.box_exec.specs.declared.key.Equality.{Equality}
 use Rattle.box_exec.specs.declared.key.Key.{Key}
-use Rattle.box_exec.specs.declared.lookup.Hashed.{Hashed}
+use Rattle.box_exec.specs.declared.lookup.Keyed.{Keyed}
 use Rattle.box_exec.specs.declared.under.Loop.{Loop}
 
 -- ---- keys
@@ -42,18 +32,18 @@ abbrev pub either_way : ℕ → Option Equality → Term → Term → List Match
 either_way q None a b = []
 either_way q (Some by) a b = one_way q by a b ++ one_way q by b a
 
--- those of an index, if it is made
-abbrev pub keys_made : Option Hashed → List Match
+-- those that are made, if there are any
+abbrev pub keys_made : Option Keyed → List Match
 keys_made None = []
-keys_made (Some h) = shown_keys h.keys.items
+keys_made (Some k) = shown_keys k.keys.items
 
-abbrev pub made_at : Option (Option Hashed) → Option Hashed
-made_at None = None
-made_at (Some o) = o
+abbrev pub keys_in : Option (Option Keyed) → List Match
+keys_in None = []
+keys_in (Some o) = keys_made o
 
-abbrev pub keys_at : Option (Option Hashed) → List Match
-keys_at None = []
-keys_at (Some o) = keys_made o
+-- those at a place
+abbrev pub keys_at : List (Option Keyed) → ℕ → List Match
+keys_at ks i = keys_in (slice_get ks i)
 
 -- ---- conditions that are tested early
 
@@ -80,27 +70,8 @@ matched_at place q e = if e.0 == place then matched q e.1 else []
 abbrev pub tested_at : List Early → ℕ → ℕ → List Match
 tested_at es place q = flat_map (λ e. matched_at place q (shown_early e)) es
 
--- ---- indexes that are asked for
+-- ---- keys that are asked for
 
--- a quantifier may bind several rows
-abbrev pub may_bind_several : Loop → Bool
-may_bind_several l = is_F l.range.kind && (is_open l.under || nat_lt 1 (length (rows_kept l.under)))
-
--- each F quantifier whose rows are looked up again and again has an index of all keys that are tested when it is bound
-abbrev pub AllAsked : Bool → List Early → List Loop → List (Option Hashed) → Type 0
-AllAsked again es ls hs = (i : ℕ) (l : Loop) → i < length ls → l ≡ get_or ls i l → is_F l.range.kind ≡ true → (again || list_any may_bind_several (take i ls)) ≡ true → keys_at (slice_get hs i) ≡ tested_at es (i + 1) l.range.id
-
--- ---- rows that are taken
-
--- the own cells of a row are the other ones
-abbrev pub are_equal : ℕ → List Key → List Cell → Environment → Bool
-are_equal q keys cells env = list_all (λ k. is_eq (cell_compare (own_of q (term k.own.now) cells) (other_of (term k.other.now) env))) keys
-
--- a row isn't passed over: one of its cells or of the others isn't plain, or they are equal
-abbrev pub is_met : ℕ → List Key → List Cell → Environment → Bool
-is_met q keys cells env = not (all_plain q keys cells) || (not (others_plain keys env) || are_equal q keys cells env)
-
--- what a way sees is taken: by a hash, what is met; without one, all
-pub record Picks (keys : List Key) (q : ℕ) (rows : List (Row (List Cell))) (env : Environment) (w : Way) : Type 0 where
-  pub hashed : (hash : ℕ) → w.hash ≡ Some hash → any_nowhere keys env ≡ false
-  pub all : w.hash ≡ None → (k : ℕ) (r : Row (List Cell)) → k < length rows → r ≡ get_or rows k r → sees w k ≡ true → takes (shown_keys keys) q env r.cells ≡ true
+-- each F quantifier has all keys that are tested when it is bound
+abbrev pub AllAsked : List Early → List Loop → List (Option Keyed) → Type 0
+AllAsked es ls ks = (i : ℕ) (l : Loop) → i < length ls → l ≡ get_or ls i l → is_F l.range.kind ≡ true → keys_at ks i ≡ tested_at es (i + 1) l.range.id

@@ -6,7 +6,7 @@ use Rattle.row_bag.specs.declared.tables.Table.{Table}
 use Rattle.qgm_core.specs.declared.node.Node.{Node}
 use Rattle.qgm_meaning.specs.Meaning.{bag_in}
 use Rattle.qgm_meaning.specs.Plain.{Counts, counted_by}
-use Rattle.box_exec.specs.declared.source.Source.{Source}
+use Rattle.row_bag.specs.declared.operand.Operand.{Operand}
 
 -- a box that is kept takes none
 abbrev pub unless_kept : (ℕ → Bool) → Counts → Counts
@@ -22,13 +22,13 @@ costs tables kept (n ∷ ns) b env =
 abbrev pub asked : List Table → (ℕ → Bool) → List Node → Counts
 asked tables kept ns = unless_kept kept (costs tables kept ns)
 
-abbrev pub is_held : Option (Option Source) → Bool
+abbrev pub is_held : Option (Option Operand) → Bool
 is_held None = false
 is_held (Some None) = false
 is_held (Some (Some s)) = true
 
 -- there are rows for those of these boxes that are kept
-abbrev pub Keeps : List (Option Source) → (ℕ → Bool) → List Node → Type 0
+abbrev pub Keeps : List (Option Operand) → (ℕ → Bool) → List Node → Type 0
 Keeps memo kept [] = ⊤
 Keeps memo kept (n ∷ ns) = (is_held (slice_get memo (length ns)) ≡ kept n.id) × Keeps memo kept ns
 

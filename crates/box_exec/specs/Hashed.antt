@@ -1,7 +1,7 @@
 -- Rows of selects over kept boxes, found by the hashes of the cells that equalities ask for.
 use Rattle.std.specs.Prelude.{ℕ, ◌≡◌, ◌<◌, ◌+◌, false, All, List, get_or, length, filter, slice_get, Option, Some}
 use Rattle.qgm_core.specs.declared.node.Node.{Node}
-use Rattle.qgm_meaning.specs.Values.{Bag, Environment}
+use Rattle.qgm_meaning.specs.Values.{Environment}
 use Rattle.box_exec.specs.Early.{is_open, rejects}
 pub use Rattle.box_exec.specs.Lasting.{rows_kept}
 use Rattle.box_exec.specs.Indexed.{IsIdleIndex}

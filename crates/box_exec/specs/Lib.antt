@@ -24,3 +24,5 @@ pub mod Settled
 pub mod Taken
 pub mod Asked
 pub mod Sought
+pub mod Takings
+pub mod Seekers

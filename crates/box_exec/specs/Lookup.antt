@@ -1,6 +1,6 @@
 -- Rows of a quantifier, found by the hashes of the cells that equalities ask for.
-use Rattle.std.specs.Prelude.{ℕ, ◌≡◌, ◌<◌, Bool, true, false, All, List, get_or, if◌then◌else◌, length, map, Option, Some, None, ⊤}
-use Rattle.std.specs.List.{list_all, list_any}
+use Rattle.std.specs.Prelude.{ℕ, ◌≡◌, ◌<◌, Bool, true, false, All, IfSome, List, get_or, if◌then◌else◌, length, map, Option, Some, None, ⊤}
+use Rattle.std.specs.List.{list_all}
 use Rattle.list_laws.specs.Lists.{In}
 use Rattle.qgm_meaning.specs.Values.{Environment, bound}
 use Rattle.qgm_terms.specs.Shown.{term}
@@ -14,6 +14,7 @@ use Rattle.box_exec.specs.declared.key.Key.{Key}
 use Rattle.box_exec.specs.declared.lookup.Aim.{Aim}
 use Rattle.box_exec.specs.declared.lookup.Aim.TheVariants.{Hash, Anywhere, Nowhere}
 use Rattle.box_exec.specs.declared.lookup.Hashed.{Hashed}
+use Rattle.box_exec.specs.declared.lookup.Keyed.{Keyed}
 
 -- where q is bound to a row whose own cell is apart from the other one, a test rejects
 abbrev pub RejectsBy : (Environment → Bool) → ℕ → Key → Type 0
@@ -40,25 +41,20 @@ row_hashes q keys rows = map (λ r. row_hash q keys r.cells) rows
 abbrev pub Hashes : (Environment → Bool) → ℕ → List (Row (List Cell)) → Hashed → Type 0
 Hashes test q rows h = All (λ k. RejectsBy test q k) h.keys.items × Indexes (row_hashes q h.keys.items rows) h.index
 
+-- keys by which a test rejects, and an index of rows by them, if it is made
+abbrev pub FitsKeys : (Environment → Bool) → ℕ → List (Row (List Cell)) → Keyed → Type 0
+FitsKeys test q rows k = All (λ key. RejectsBy test q key) k.keys.items × IfSome k.index (λ ix. Indexes (row_hashes q k.keys.items rows) ix)
+
 -- ---- ways through rows
 
 abbrev pub others_plain : List Key → Environment → Bool
 others_plain keys env = list_all (λ k. is_plain k.by (other_of (term k.other.now) env)) keys
-
-abbrev pub any_nowhere : List Key → Environment → Bool
-any_nowhere keys env = list_any (λ k. is_nowhere k.by (other_of (term k.other.now) env)) keys
 
 -- what the other sides of keys come to: a hash where all are plain, anything, or one of which an equality is nowhere true
 abbrev pub Aims : List Key → Environment → Aim → Type 0
 Aims keys env (Hash h) = (others_plain keys env ≡ true) × (h ≡ hash_of (others keys env))
 Aims keys env Anywhere = ⊤
 Aims keys env Nowhere = (key : Key) × (In key keys × (is_nowhere key.by (other_of (term key.other.now) env) ≡ true))
-
--- anything where one isn't plain; neither a hash nor anything where an equality is nowhere true
-abbrev pub AimsOnly : List Key → Environment → Aim → Type 0
-AimsOnly keys env (Hash h) = any_nowhere keys env ≡ false
-AimsOnly keys env Anywhere = (others_plain keys env ≡ false) × (any_nowhere keys env ≡ false)
-AimsOnly keys env Nowhere = ⊤
 
 -- a row at this place is rejected
 abbrev pub Skipped : (Environment → Bool) → ℕ → List (Row (List Cell)) → Environment → ℕ → Type 0

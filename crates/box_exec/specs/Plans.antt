@@ -1,10 +1,11 @@
 -- A box that is evaluated, and what its quantifiers give.
-use Rattle.std.specs.Prelude.{ℕ, ◌≡◌, ◌||◌, not, All, Bool, List, Some, drop, map, take}
-use Rattle.std.specs.List.{list_any}
+use Rattle.std.specs.Prelude.{ℕ, ◌≡◌, ◌+◌, ◌∷◌, All, Bool, true, List, Option, Some, drop, map}
 use Rattle.qgm_meaning.specs.Plain.{Counts, counted_by, under_rows}
 use Rattle.box_exec.specs.Costs.{Keeps, asked}
 use Rattle.list_laws.specs.Lists.{first}
-use Rattle.qgm_core.specs.Boxes.{is_quant}
+use Rattle.qgm_core.specs.Boxes.{Ordered, is_quant}
+use Rattle.qgm_core.specs.declared.kinds.BoxKind.TheVariants.{Select}
+use Rattle.qgm_core.specs.declared.node.Node.{Node}
 use Rattle.qgm_core.specs.declared.owned.OwnedQuant.{OwnedQuant}
 use Rattle.qgm_meaning.specs.Meaning.{Family, bag_in, rows_of}
 use Rattle.qgm_meaning.specs.Values.{Bag, Environment}
@@ -12,9 +13,12 @@ use Rattle.row_bag.specs.declared.tables.Table.{Table}
 use Rattle.box_exec.specs.Indexed.{AllIdle}
 use Rattle.box_exec.specs.Lasting.{AllPlanned, IsOrder, IsPlan, RightIndexed, rows_kept, rows_stored}
 use Rattle.box_exec.specs.Ready.{Fit, Ready, Stands, over_left}
-use Rattle.box_exec.specs.Sought.{AllSought}
-use Rattle.box_exec.specs.Taken.{binds_several, ways}
+use Rattle.box_exec.specs.Sought.{AllSought, OpensAs}
+use Rattle.box_exec.specs.Taken.{taken_by, ways}
+use Rattle.box_exec.specs.Takings.{AllSeek, Seeks, asked_takings}
 use Rattle.box_exec.specs.declared.boxes.At.{At}
+use Rattle.box_exec.specs.declared.plan.Plan.{Plan}
+use Rattle.row_bag.specs.declared.operand.Operand.{Operand}
 use Rattle.box_exec.specs.declared.under.Loop.{Loop}
 
 abbrev pub tables_of : At → List Table
@@ -35,9 +39,10 @@ stored at = rows_stored at.run.now.memo.now at.below.now
 pub record Planned (at : At) : Type 0 where
   pub ranged : ranges at.loops.now ≡ at.node.now.quants
   pub stand : All (λ l. Stands (tables_of at) at.run.now.memo.now at.below.now l.range.over l.under) at.loops.now
+  pub opens : All (λ l. OpensAs at.run.now.memo.now at.below.now l.range.over l.under) at.loops.now
   pub fit : Fit at.node.now at.below.now
   pub rows : All (λ l. rows_kept l.under ≡ stored at l.range.over) at.loops.now
-  pub plan : IsPlan at.node.now (ranges at.loops.now) (stored at) at.early.now at.hashed.now
+  pub plan : IsPlan at.node.now (ranges at.loops.now) (stored at) at.early.now at.keyed.now
   pub orders : All (λ o. IsOrder at.node.now (stored at) o) at.orders.now
   pub idle : AllIdle (ranges at.loops.now) (stored at) at.idle.now
   pub right : All (λ h. RightIndexed at.node.now (stored at) h) at.right.now
@@ -49,7 +54,7 @@ pub record Bound (at : At) : Type 0 where
   pub own : All (λ l. first (is_quant l.range.id) at.node.now.quants ≡ Some l.range) at.loops.now
   pub stand : All (λ l. Stands (tables_of at) at.run.now.memo.now at.below.now l.range.over l.under) at.loops.now
   pub rows : All (λ l. rows_kept l.under ≡ stored at l.range.over) at.loops.now
-  pub plan : IsPlan at.node.now (ranges at.loops.now) (stored at) at.early.now at.hashed.now
+  pub plan : IsPlan at.node.now (ranges at.loops.now) (stored at) at.early.now at.keyed.now
 
 -- what stands under a quantifier of it
 abbrev pub StandsAt : At → Loop → Type 0
@@ -81,14 +86,36 @@ cost_left at kept k env = under_rows (drop k at.node.now.quants) at.node.now.qua
 
 -- ---- rows that are taken
 
--- rows are looked up again and again from a place on
-abbrev pub asked_again : At → (ℕ → Bool) → ℕ → Bool
-asked_again at closed k = not (closed at.node.now.id) || list_any (binds_several closed (family at)) (take k (ranges at.loops.now))
+-- how many rows are taken where the rows of the boxes below it are asked for
+abbrev pub asked_takings_at : At → (ℕ → Bool) → Counts
+asked_takings_at at kept = asked_takings (tables_of at) kept at.below.now
+
+-- where it is evaluated itself
+abbrev pub takings_at : At → (ℕ → Bool) → Environment → ℕ
+takings_at at kept env = taken_by kept at.node.now.parts.kind at.node.now (family at) (asked_takings_at at kept) env
 
 -- the ways to choose rows for its quantifiers from a place on
 abbrev pub ways_left : At → (ℕ → Bool) → ℕ → Environment → ℕ
-ways_left at closed k env = ways closed at.node.now (asked_again at closed k) (drop k (ranges at.loops.now)) (family at) env
+ways_left at kept k env = ways kept at.node.now (drop k (ranges at.loops.now)) (family at) env
 
--- the indexes that are asked for in this order are there
-abbrev pub SoughtAt : At → (ℕ → Bool) → Type 0
-SoughtAt at closed = AllSought closed at.node.now (not (closed at.node.now.id)) (ranges at.loops.now) (family at) at.hashed.now
+-- these, and what is taken by the boxes below it for each combination
+abbrev pub takings_left : At → (ℕ → Bool) → ℕ → Environment → ℕ
+takings_left at kept k env = ways_left at kept k env + under_rows (drop k at.node.now.quants) at.node.now.quants (family at) (asked_takings_at at kept) env
+
+-- all keys that the conditions ask for in this order are there
+abbrev pub SoughtAt : At → Type 0
+SoughtAt at = AllSought at.node.now (ranges at.loops.now) at.keyed.now
+
+-- a box is evaluated with keys, over boxes that are kept so, as it and those below it are planned
+pub record SeeksIn (indexed : Bool) (memo : List (Option Operand)) (plans : List (Option Plan)) (kept : ℕ → Bool) (n : Node) (below : List Node) : Type 0 where
+  pub by_keys : indexed ≡ true
+  pub keeps : Keeps memo kept below
+  pub ordered : Ordered (n ∷ below)
+  pub planned : AllSeek kept plans (n ∷ below)
+
+pub record SeeksAt (at : At) (kept : ℕ → Bool) : Type 0 where
+  pub by_keys : at.run.now.indexed ≡ true
+  pub keeps : KeepsAt at kept
+  pub ordered : Ordered (at.node.now ∷ at.below.now)
+  pub planned : AllSeek kept at.run.now.plans.now at.below.now
+  pub here : at.node.now.parts.kind ≡ Select → Seeks kept at.node.now at.keyed.now at.orders.now

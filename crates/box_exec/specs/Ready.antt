@@ -1,7 +1,7 @@
 -- What is made so far, and what a graph owes to its execution.
 use Rattle.std.specs.Prelude.{ℕ, ◌≡◌, ◌≤◌, ◌+◌, ◌||◌, Bool, true, false, not, All, List, [], ◌∷◌, length, slice_get, Option, Some, None, ⊤}
 use Rattle.std.specs.List.{list_any}
-use Rattle.qgm_core.specs.Boxes.{is_quant, owns}
+use Rattle.qgm_core.specs.Boxes.{Ordered, is_quant, owns}
 use Rattle.qgm_core.specs.Kinds.{is_F}
 use Rattle.list_laws.specs.Lists.{first}
 use Rattle.qgm_core.specs.declared.node.Node.{Node}
@@ -16,8 +16,10 @@ use Rattle.box_exec.specs.Costs.{Keeps, asked}
 use Rattle.box_exec.specs.Lasting.{AllPlanned}
 use Rattle.qgm_meaning.specs.Plain.{counted_by}
 use Rattle.box_exec.specs.Sources.{held, rows_held}
+use Rattle.box_exec.specs.Taken.{taken_by}
+use Rattle.box_exec.specs.Takings.{AllSeek, asked_takings}
 use Rattle.box_exec.specs.declared.plan.Plan.{Plan}
-use Rattle.box_exec.specs.declared.source.Source.{Source}
+use Rattle.row_bag.specs.declared.operand.Operand.{Operand}
 use Rattle.box_exec.specs.declared.source.Sub.{Sub}
 use Rattle.box_exec.specs.declared.under.Under.{Under}
 use Rattle.box_exec.specs.declared.under.Under.TheVariants.{Kept, Open, Nothing}
@@ -48,19 +50,19 @@ AllFit (n ∷ ns) = Fit n ns × AllFit ns
 -- ---- kept rows
 
 -- rows that are those of a box in every environment, if there are any
-abbrev pub Entry : List Table → Node → List Node → Option (Option Source) → Type 0
+abbrev pub Entry : List Table → Node → List Node → Option (Option Operand) → Type 0
 Entry tables n ns None = ⊤
 Entry tables n ns (Some None) = ⊤
 Entry tables n ns (Some (Some s)) = (env : Environment) → Alike (held s) (rows_of tables n (bag_in tables ns) env)
 
 -- these are the rows of an entry
-abbrev pub Held : Option (Option Source) → Bag → Type 0
+abbrev pub Held : Option (Option Operand) → Bag → Type 0
 Held None rows = ⊥
 Held (Some None) rows = ⊥
 Held (Some (Some s)) rows = rows ≡ held s
 
 -- these boxes are fit, and the entry at i is of the one with i boxes behind it
-abbrev pub Ready : List Table → List (Option Source) → List Node → Type 0
+abbrev pub Ready : List Table → List (Option Operand) → List Node → Type 0
 Ready tables memo [] = ⊤
 Ready tables memo (n ∷ ns) = Fit n ns × Entry tables n ns (slice_get memo (length ns)) × Ready tables memo ns
 
@@ -77,16 +79,19 @@ weight_under (Open n behind) = length n.now.quants + 8 + weight behind.now
 weight_under Nothing = 0
 
 -- the box of this number is n, over those behind it
-pub record IsOpen (tables : List Table) (memo : List (Option Source)) (below : List Node) (b : ℕ) (n : Node) (behind : List Node) : Type 0 where
+pub record IsOpen (tables : List Table) (memo : List (Option Operand)) (below : List Node) (b : ℕ) (n : Node) (behind : List Node) : Type 0 where
   pub bag : (env : Environment) → bag_in tables below b env ≡ rows_of tables n (bag_in tables behind) env
   pub fit : Fit n behind
   pub ready : Ready tables memo behind
   pub less : length n.quants + 8 + weight behind ≤ weight below
   pub plans : (ps : List (Option Plan)) → AllPlanned memo ps below → AllPlanned memo ps (n ∷ behind)
   pub keeps : (kept : ℕ → Bool) → Keeps memo kept below → Keeps memo kept behind × ((env : Environment) → asked tables kept below b env ≡ counted_by n.parts.kind n (bag_in tables behind) (asked tables kept behind) env)
+  pub seeks : (kept : ℕ → Bool) (ps : List (Option Plan)) → AllSeek kept ps below → AllSeek kept ps (n ∷ behind)
+  pub takes : (kept : ℕ → Bool) → Keeps memo kept below → (env : Environment) → asked_takings tables kept below b env ≡ taken_by kept n.parts.kind n (bag_in tables behind) (asked_takings tables kept behind) env
+  pub ordered : Ordered below → Ordered (n ∷ behind)
 
 -- what stands under a quantifier over box b
-abbrev pub Stands : List Table → List (Option Source) → List Node → ℕ → Under → Type 0
+abbrev pub Stands : List Table → List (Option Operand) → List Node → ℕ → Under → Type 0
 Stands tables memo below b (Kept rows) = (env : Environment) → Alike rows.now (bag_in tables below b env)
 Stands tables memo below b (Open n behind) = IsOpen tables memo below b n.now behind.now
 Stands tables memo below b Nothing = (env : Environment) → bag_in tables below b env ≡ []
@@ -105,5 +110,5 @@ abbrev pub over_left : List Table → Node → List Node → List OwnedQuant →
 over_left tables n below rs env = over_each rs (quant_rows n (bag_in tables below)) (given_by (quant_rows n (bag_in tables below)) n) env
 
 -- rows that are those of a box in every environment
-abbrev pub Holds : List Table → Node → List Node → Source → Type 0
+abbrev pub Holds : List Table → Node → List Node → Operand → Type 0
 Holds tables n ns s = (env : Environment) → Alike (held s) (rows_of tables n (bag_in tables ns) env)

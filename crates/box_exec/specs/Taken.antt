@@ -1,10 +1,10 @@
 -- How many rows selects take for their F quantifiers: by look-ups in indexes, and by loops where there is none.
-use Rattle.std.specs.Prelude.{ℕ, ◌+◌, ◌==◌, ◌&&◌, ◌||◌, ◌++◌, not, nat_lt, if◌then◌else◌, Bool, true, false, List, [], ◌∷◌, Option, Some, None, filter}
-use Rattle.std.specs.List.{flat_map, list_all, list_any}
+use Rattle.std.specs.Prelude.{ℕ, suc, zero, ◌+◌, ◌==◌, ◌&&◌, ◌||◌, ◌++◌, not, if◌then◌else◌, Bool, true, List, [], ◌∷◌, Option, Some, None, drop, filter, length, take}
+use Rattle.std.specs.List.{flat_map, list_all, list_any, position, remove}
 use Rattle.std.specs.Ordering.{is_eq}
 use Rattle.row_bag.specs.Bags.{total}
 use Rattle.row_bag.specs.declared.tables.Table.{Table}
-use Rattle.list_laws.specs.Lists.{first, holds}
+use Rattle.list_laws.specs.Lists.{holds}
 use Rattle.qgm_core.specs.Boxes.{QueryGraph, is_quant}
 use Rattle.qgm_core.specs.Free.{free_in, reached}
 use Rattle.qgm_core.specs.Kinds.{is_F}
@@ -15,7 +15,7 @@ use Rattle.qgm_core.specs.declared.owned.OwnedQuant.{OwnedQuant}
 use Rattle.qgm_meaning.specs.Meaning.{Family, bag}
 use Rattle.qgm_meaning.specs.Plain.{Counts, under_each, under_rows}
 use Rattle.qgm_meaning.specs.Ranks.{by_rank}
-use Rattle.qgm_meaning.specs.Values.{Bag, Environment, bound}
+use Rattle.qgm_meaning.specs.Values.{Environment, bound}
 use Rattle.qgm_terms.specs.Named.{columns_in}
 use Rattle.qgm_terms.specs.Terms.{Cond, Term, Sign, equal, unequal, below, at_most, above, at_least, same, like, always, compare, is_null, and, or, some, every}
 use Rattle.qgm_terms.specs.Terms as terms
@@ -74,34 +74,29 @@ matches n r rs = flat_map (matched r.id) (filter (λ c. not (names_any c n.quant
 
 -- ---- look-ups
 
--- a look-up takes a row of q: one with an error among its own cells; and where no `=` has a null on its other side, each if one of the other cells is an error, else one whose own cells are the other ones
+-- a key lets a row of q pass: one with an error in its own cell; else, where the other cell isn't null beside `=`, each if that is an error, and one whose own cell is the other one
+abbrev pub passes : ℕ → Environment → List Cell → Match → Bool
+passes q env cells m =
+    not (is_plain m.by (own_of q m.own cells))
+    || (not (is_nowhere m.by (other_of m.other env)) && (not (is_plain m.by (other_of m.other env)) || is_eq (cell_compare (own_of q m.own cells) (other_of m.other env))))
+
+-- a look-up takes a row that all keys let pass
 abbrev pub takes : List Match → ℕ → Environment → List Cell → Bool
-takes ms q env cells =
-    not (list_all (λ m. is_plain m.by (own_of q m.own cells)) ms)
-    || (not (list_any (λ m. is_nowhere m.by (other_of m.other env)) ms)
-    && (not (list_all (λ m. is_plain m.by (other_of m.other env)) ms) || list_all (λ m. is_eq (cell_compare (own_of q m.own cells) (other_of m.other env))) ms))
+takes ms q env cells = list_all (passes q env cells) ms
 
 -- ---- ways to choose rows
 
--- how many rows are there
-abbrev pub number : Bag → ℕ
-number rows = total ◌+◌ 0 (λ cells level. 1) rows
+-- a row of r is taken, before those of rs are bound: of a closed box, one that a look-up by its keys takes; of an open one, each
+abbrev pub is_taken : (ℕ → Bool) → Node → OwnedQuant → List OwnedQuant → Environment → List Cell → Bool
+is_taken closed n r rs env cells = not (closed r.over) || takes (matches n r rs) r.id env cells
 
--- an F quantifier over an open box, or over one of several rows
-abbrev pub binds_several : (ℕ → Bool) → Family → OwnedQuant → Bool
-binds_several closed bags r = is_F r.kind && (not (closed r.over) || nat_lt 1 (number (bags r.over [])))
-
--- a row is taken for r, before those of rs are bound: rows of a closed box are looked up where they are asked for again and again; else each is taken
-abbrev pub is_taken : (ℕ → Bool) → Node → Bool → OwnedQuant → List OwnedQuant → Environment → List Cell → Bool
-is_taken closed n again r rs env cells = not (closed r.over && again) || takes (matches n r rs) r.id env cells
-
--- the ways to choose rows for the first F quantifier of these, for the first two, and so on up to all, each row one that is taken for those before it; they are asked for again and again where the box is, or where one before may bind several rows
-abbrev pub ways : (ℕ → Bool) → Node → Bool → List OwnedQuant → Family → Environment → ℕ
-ways closed n again [] bags env = 0
-ways closed n again (r ∷ rs) bags env =
+-- the ways to choose rows for the first F quantifier of these, for the first two, and so on up to all, each row one that is taken for those before it
+abbrev pub ways : (ℕ → Bool) → Node → List OwnedQuant → Family → Environment → ℕ
+ways closed n [] bags env = 0
+ways closed n (r ∷ rs) bags env =
     if is_F r.kind
-    then total ◌+◌ 0 (λ cells level. if is_taken closed n again r rs env cells then 1 + ways closed n (again || binds_several closed bags r) rs bags (bound r.id cells env) else 0) (bags r.over env)
-    else ways closed n (again || binds_several closed bags r) rs bags env
+    then total ◌+◌ 0 (λ cells level. if is_taken closed n r rs env cells then 1 + ways closed n rs bags (bound r.id cells env) else 0) (bags r.over env)
+    else ways closed n rs bags env
 
 -- ---- the order in which quantifiers are bound
 
@@ -113,30 +108,30 @@ reads_others left x = list_any (λ k. true) (columns_in x) && not (list_any (λ 
 abbrev pub has_key : Node → List OwnedQuant → OwnedQuant → Bool
 has_key n left r = list_any (λ c. list_any (λ m. reads_others left m.other) (matched r.id c)) n.parts.conds.items
 
-abbrev pub else_first : Option OwnedQuant → List OwnedQuant → List OwnedQuant
-else_first (Some r) left = r ∷ []
-else_first None [] = []
-else_first None (r ∷ left) = r ∷ []
+-- the place that is found, else the first
+abbrev pub or_first : Option ℕ → ℕ
+or_first None = 0
+or_first (Some place) = place
 
--- the first of those that are left which has a key to others; without one the first
-abbrev pub next_of : Node → List OwnedQuant → List OwnedQuant
-next_of n left = else_first (first (has_key n left) left) left
+-- the place of the first of those that are left which has a key to others; without one the first place
+abbrev pub next_place : Node → List OwnedQuant → ℕ
+next_place n left = or_first (position (has_key n left) left)
 
--- one after the other, at most as often as there are turns
-abbrev pub in_turn : Node → List OwnedQuant → List OwnedQuant → List OwnedQuant
-in_turn n [] left = []
-in_turn n (turn ∷ turns) left = next_of n left ++ in_turn n turns (filter (λ r. not (list_any (is_quant r.id) (next_of n left))) left)
+-- so many of those that are left, one after the other
+abbrev pub in_turn : Node → ℕ → List OwnedQuant → List OwnedQuant
+in_turn n zero left = []
+in_turn n (suc many) left = take 1 (drop (next_place n left) left) ++ in_turn n many (remove left (next_place n left))
 
 -- of a select: in turn where all its quantifiers range over closed boxes, else as in its text
 abbrev pub bound_order : (ℕ → Bool) → Node → List OwnedQuant
-bound_order closed n = if list_all (λ r. closed r.over) n.quants then in_turn n n.quants n.quants else n.quants
+bound_order closed n = if list_all (λ r. closed r.over) n.quants then in_turn n (length n.quants) n.quants else n.quants
 
 -- ---- evaluations
 
 -- one evaluation of a box, over those of the boxes below it
 abbrev pub taken_by : (ℕ → Bool) → BoxKind → Node → Family → Counts → Environment → ℕ
 taken_by closed (Base table) n bags count env = 0
-taken_by closed Select n bags count env = ways closed n (not (closed n.id)) (bound_order closed n) bags env + under_rows n.quants n.quants bags count env
+taken_by closed Select n bags count env = ways closed n (bound_order closed n) bags env + under_rows n.quants n.quants bags count env
 taken_by closed (Group keys) n bags count env = under_each n.quants count env
 taken_by closed (SetOp operator types) n bags count env = under_each n.quants count env
 taken_by closed OuterJoin n bags count env = under_each n.quants count env

@@ -10,6 +10,8 @@ ghost use Rattle.box_exec.specs.Outer.{rejects_on};
 ghost use Rattle.box_exec.specs.Plans as plan;
 ghost use Rattle.box_exec.specs.Ready.{Fit, Ready, SubsOf, isnt_F};
 ghost use Rattle.box_exec.specs.Sources.{held, rows_held};
+ghost use Rattle.box_exec.specs.Taken.{taken_by};
+ghost use Rattle.box_exec.specs.Takings.{asked_takings};
 ghost use Rattle.qgm_core.specs.declared.kinds.BoxKind.TheVariants as kind;
 ghost use Rattle.qgm_meaning.specs.Meaning as m;
 ghost use Rattle.qgm_meaning.specs.Plain.{counted_by, under_each, under_others};
@@ -24,14 +26,14 @@ use crate::hashed::{all_kept, is_taken, kept_selected, sub_rows, way_under};
 use crate::heads::{add_given, once_added};
 use crate::idle_index::IdleIndex;
 use crate::joining::{Join, outer_joined};
-use crate::lookup::Hashed;
+use crate::lookup::{Hashed, Keyed};
 use crate::order::Order;
 use crate::plan::{Plan, plan_of};
-use crate::source::{Source, Sub, SubRows, made, push_sub, unindexed};
+use crate::source::{Sub, SubRows, made, push_sub, unindexed};
 use crate::tally::{Tally, take};
 use crate::under::{Loop, Run, Under, loops, table_rows};
 use qgm_core::{BoxKind, Node, SetOperator};
-use row_bag::{Bag, copied_rows};
+use row_bag::{Bag, Operand, copied_rows};
 use row_index::{first_of, next_of};
 use shared_types::OutOfMemory;
 use sql_value::{Level, least};
@@ -39,7 +41,7 @@ use std::sync::ledger::Ledger;
 use step_count::Steps;
 
 /// A box that is evaluated: itself, those behind it, its quantifiers, its conditions that are tested before
-/// all of these are bound, the indexes of their rows, and better orders of these if there are any; the
+/// all of these are bound, the keys of these with indexes of their rows, and better orders if there are any; the
 /// indexes of rows of its E and A quantifiers, and of the right rows of an outer join.
 #[derive(Clone, Copy)]
 pub(crate) struct At<'a> {
@@ -48,7 +50,7 @@ pub(crate) struct At<'a> {
     pub below: &'a [Node],
     pub loops: &'a [Loop<'a>],
     pub early: &'a [Early<'a>],
-    pub hashed: &'a [Option<Hashed<'a>>],
+    pub keyed: &'a [Option<Keyed<'a>>],
     pub orders: &'a [Order<'a>],
     pub idle: &'a [Option<IdleIndex<'a>>],
     pub right: &'a [Hashed<'a>],
@@ -58,6 +60,7 @@ pub(crate) struct At<'a> {
 pub(crate) fn step<L: Ledger>(steps: &mut Steps<L>, tally: &mut Tally)
     ensures counted { (start : ℕ) → Counted start steps.old tally.old.count → Counted start steps.new tally.new.count }
     ensures ticked { steps.new ≡ steps.old + 1 }
+    ensures taken { tally.new.taken ≡ tally.old.taken }
 {
     steps.tick();
     tally.count = tally.count.saturating_add(1);
@@ -89,6 +92,7 @@ pub(crate) fn evaluated<'a, L: Ledger>(
     ensures rows { IfOk result (λ bag. Alike bag (m.rows_of run.now.tables.now node.now (m.bag_in run.now.tables.now below.now) (env_of env.now))) }
     ensures counted { (start : ℕ) → Counted start steps.old tally.old.count → Counted start steps.new tally.new.count }
     ensures took { (kept : ℕ → Bool) → Keeps run.now.memo.now kept below.now → IfOk result (λ bag. Between 1 (counted_by node.now.parts.kind node.now (m.bag_in run.now.tables.now below.now) (asked run.now.tables.now kept below.now) (env_of env.now)) steps.old steps.new) }
+    ensures taken { (kept : ℕ → Bool) → plan.SeeksIn run.now.indexed run.now.memo.now run.now.plans.now kept node.now below.now → IfOk result (λ bag. Between 0 (taken_by kept node.now.parts.kind node.now (m.bag_in run.now.tables.now below.now) (asked_takings run.now.tables.now kept below.now) (env_of env.now)) tally.old.taken tally.new.taken) }
 {
     step(steps, tally);
     let loops = loops(run, node.quants.as_slice(), below)?;
@@ -99,7 +103,7 @@ pub(crate) fn evaluated<'a, L: Ledger>(
             below: &*below,
             loops: &loops,
             early: &plan.early,
-            hashed: &plan.hashed,
+            keyed: &plan.keyed,
             orders: &plan.orders,
             idle: &plan.idle,
             right: &plan.right,
@@ -113,7 +117,7 @@ pub(crate) fn evaluated<'a, L: Ledger>(
         below: &*below,
         loops: &loops,
         early: &plan.early,
-        hashed: &plan.hashed,
+        keyed: &plan.keyed,
         orders: &plan.orders,
         idle: &plan.idle,
         right: &plan.right,
@@ -144,6 +148,7 @@ fn of_kind<L: Ledger>(
     ensures rows { IfOk result (λ bag. Alike bag (plan.rows_at at.now (env_of env.now))) }
     ensures counted { (start : ℕ) → Counted start steps.old tally.old.count → Counted start steps.new tally.new.count }
     ensures took { (kept : ℕ → Bool) → plan.KeepsAt at.now kept → IfOk result (λ bag. Between 1 (plan.cost_at at.now kept (env_of env.now)) steps.old (steps.new + 1)) }
+    ensures taken { (kept : ℕ → Bool) → plan.SeeksAt at.now kept → IfOk result (λ bag. Between 0 (plan.takings_at at.now kept (env_of env.now)) tally.old.taken tally.new.taken) }
 {
     match &at.node.parts.kind {
         BoxKind::Base(table) => copied_rows(at.run.alloc, table_rows(at.run.tables, &table.name)),
@@ -164,18 +169,19 @@ fn rows_under<'a, L: Ledger>(
     env: &Bindings,
     steps: &mut Steps<L>,
     tally: &mut Tally,
-) -> Result<Source<'a>, OutOfMemory>
+) -> Result<Operand<'a>, OutOfMemory>
     requires stands { plan.StandsAt at.now l.now }
     requires plans { AllPlanned at.now.run.now.memo.now at.now.run.now.plans.now at.now.below.now }
     ensures rows { IfOk result (λ s. Alike (held s) (plan.family at.now l.now.range.over (env_of env.now))) }
     ensures kept { is_open l.now.under ≡ false → IfOk result (λ s. held s ≡ rows_kept l.now.under) }
     ensures counted { (start : ℕ) → Counted start steps.old tally.old.count → Counted start steps.new tally.new.count }
     ensures took { (kept : ℕ → Bool) → plan.KeepsAt at.now kept → IfOk result (λ s. Between 0 (plan.asked_at at.now kept l.now.range.over (env_of env.now)) steps.old steps.new) }
+    ensures taken { (kept : ℕ → Bool) → plan.SeeksAt at.now kept → IfOk result (λ s. Between 0 (plan.asked_takings_at at.now kept l.now.range.over (env_of env.now)) tally.old.taken tally.new.taken) }
 {
     match l.under {
-        Under::Kept(rows) => Ok(Source::Borrowed(rows)),
+        Under::Kept(rows) => Ok(Operand::Borrowed(rows)),
         Under::Open(node, behind) => made(evaluated(at.run, node, behind, env, steps, tally)),
-        Under::Nothing => Ok(Source::Borrowed(&[])),
+        Under::Nothing => Ok(Operand::Borrowed(at.run.tables.none())),
     }
 }
 
@@ -191,6 +197,7 @@ fn selected<L: Ledger>(
     ensures rows { IfOk result (λ bag. Alike bag (m.rows_by kind.Select (plan.tables_of at.now) at.now.node.now (m.quant_rows at.now.node.now (plan.family at.now)) (env_of env.now))) }
     ensures counted { (start : ℕ) → Counted start steps.old tally.old.count → Counted start steps.new tally.new.count }
     ensures took { (kept : ℕ → Bool) → plan.KeepsAt at.now kept → IfOk result (λ bag. Between 0 (plan.cost_left at.now kept 0 (env_of env.now)) steps.old steps.new) }
+    ensures taken { (kept : ℕ → Bool) → plan.SeeksAt at.now kept → at.now.node.now.parts.kind ≡ kind.Select → IfOk result (λ bag. Between 0 (taken_by kept kind.Select at.now.node.now (plan.family at.now) (plan.asked_takings_at at.now kept) (env_of env.now)) tally.old.taken tally.new.taken) }
 {
     if all_kept(at.loops) {
         return kept_selected(at, env, &mut tally.taken);
@@ -216,6 +223,7 @@ fn each<'x, L: Ledger>(
     ensures rows { OnOk result (Alike out.new (out.old ++ keep level (plan.left_at at.now k (env_of env.now)))) }
     ensures counted { (start : ℕ) → Counted start steps.old tally.old.count → Counted start steps.new tally.new.count }
     ensures took { (kept : ℕ → Bool) → plan.KeepsAt at.now kept → OnOk result (Between 0 (at_level level (plan.cost_left at.now kept k (env_of env.now))) steps.old steps.new) }
+    ensures taken { (kept : ℕ → Bool) → plan.SeeksAt at.now kept → plan.SoughtAt at.now → OnOk result (Between 0 (at_level level (plan.takings_left at.now kept k (env_of env.now))) tally.old.taken tally.new.taken) }
 {
     if is_no(level) {
         return Ok(());
@@ -235,12 +243,11 @@ fn each<'x, L: Ledger>(
     let mut c = first_of(&way);
     let mut i = c.place();
     while i < way.end {
-        let row = &rows[i];
-        let cells = row.cells.as_slice();
-        if is_taken(at, k, l, &way, cells, env)? {
+        let row = rows.at(i);
+        if is_taken(at, k, l, row.cells, env)? {
             let level = least(level, row.level);
             take(level, &mut tally.taken);
-            let inside = Bindings::Row(l.range.id, cells, &*env);
+            let inside = Bindings::Row(l.range.id, row.cells, &*env);
             each(at, k + 1, level, &inside, out, steps, tally)?;
         }
         c = next_of(&way, c);
@@ -264,6 +271,7 @@ fn add_head<L: Ledger>(
     ensures rows { OnOk result (Alike out.new (out.old ++ keep level (m.given_by (m.quant_rows at.now.node.now (plan.family at.now)) at.now.node.now (env_of env.now)))) }
     ensures counted { (start : ℕ) → Counted start steps.old tally.old.count → Counted start steps.new tally.new.count }
     ensures took { (kept : ℕ → Bool) → plan.KeepsAt at.now kept → OnOk result (Between 0 (under_others at.now.node.now.quants (plan.asked_at at.now kept) (env_of env.now)) steps.old steps.new) }
+    ensures taken { (kept : ℕ → Bool) → plan.SeeksAt at.now kept → OnOk result (Between 0 (under_others at.now.node.now.quants (plan.asked_takings_at at.now kept) (env_of env.now)) tally.old.taken tally.new.taken) }
 {
     let subs = subs(at, env, steps, tally)?;
     add_given(at.run.alloc, at.node, subs.as_slice(), level, env, out)
@@ -285,6 +293,7 @@ fn sub_under<'a, L: Ledger>(
     ensures rows { IfOk result (λ s. Alike (rows_held s) (plan.family at.now l.now.range.over (env_of env.now))) }
     ensures counted { (start : ℕ) → Counted start steps.old tally.old.count → Counted start steps.new tally.new.count }
     ensures took { (kept : ℕ → Bool) → plan.KeepsAt at.now kept → IfOk result (λ s. Between 0 (plan.asked_at at.now kept l.now.range.over (env_of env.now)) steps.old steps.new) }
+    ensures taken { (kept : ℕ → Bool) → plan.SeeksAt at.now kept → IfOk result (λ s. Between 0 (plan.asked_takings_at at.now kept l.now.range.over (env_of env.now)) tally.old.taken tally.new.taken) }
 {
     if is_open(l.under) {
         return unindexed(rows_under(at, l, env, steps, tally));
@@ -304,6 +313,7 @@ fn subs<'a, L: Ledger>(
     ensures rows { IfOk result (λ subs. SubsOf (plan.family at.now) (env_of env.now) (filter isnt_F (plan.ranges at.now.loops.now)) subs.items) }
     ensures counted { (start : ℕ) → Counted start steps.old tally.old.count → Counted start steps.new tally.new.count }
     ensures took { (kept : ℕ → Bool) → plan.KeepsAt at.now kept → IfOk result (λ subs. Between 0 (under_others (plan.ranges at.now.loops.now) (plan.asked_at at.now kept) (env_of env.now)) steps.old steps.new) }
+    ensures taken { (kept : ℕ → Bool) → plan.SeeksAt at.now kept → IfOk result (λ subs. Between 0 (under_others (plan.ranges at.now.loops.now) (plan.asked_takings_at at.now kept) (env_of env.now)) tally.old.taken tally.new.taken) }
 {
     let mut subs = Vec::new(at.run.alloc);
     for i in 0..at.loops.len() {
@@ -329,6 +339,7 @@ fn groups<L: Ledger>(
     ensures rows { IfOk result (λ bag. Alike bag (m.rows_by (kind.Group keys) (plan.tables_of at.now) at.now.node.now (m.quant_rows at.now.node.now (plan.family at.now)) (env_of env.now))) }
     ensures counted { (start : ℕ) → Counted start steps.old tally.old.count → Counted start steps.new tally.new.count }
     ensures took { (kept : ℕ → Bool) → plan.KeepsAt at.now kept → IfOk result (λ bag. Between 0 (under_each at.now.node.now.quants (plan.asked_at at.now kept) (env_of env.now)) steps.old steps.new) }
+    ensures taken { (kept : ℕ → Bool) → plan.SeeksAt at.now kept → IfOk result (λ bag. Between 0 (under_each at.now.node.now.quants (plan.asked_takings_at at.now kept) (env_of env.now)) tally.old.taken tally.new.taken) }
 {
     let Some(l) = at.loops.get(0) else {
         return Ok(Bag::new(at.run.alloc));
@@ -352,6 +363,7 @@ fn put_together<L: Ledger>(
     ensures rows { IfOk result (λ bag. Alike bag (m.of_two at.now.node.now.quants (λ p q. m.combined operator width (m.quant_rows at.now.node.now (plan.family at.now) p (env_of env.now)) (m.quant_rows at.now.node.now (plan.family at.now) q (env_of env.now))))) }
     ensures counted { (start : ℕ) → Counted start steps.old tally.old.count → Counted start steps.new tally.new.count }
     ensures took { (kept : ℕ → Bool) → plan.KeepsAt at.now kept → IfOk result (λ bag. Between 0 (under_each at.now.node.now.quants (plan.asked_at at.now kept) (env_of env.now)) steps.old steps.new) }
+    ensures taken { (kept : ℕ → Bool) → plan.SeeksAt at.now kept → IfOk result (λ bag. Between 0 (under_each at.now.node.now.quants (plan.asked_takings_at at.now kept) (env_of env.now)) tally.old.taken tally.new.taken) }
 {
     let [p, q, ..] = at.loops else {
         return Ok(Bag::new(at.run.alloc));
@@ -389,6 +401,7 @@ fn joined<L: Ledger>(
     ensures rows { IfOk result (λ bag. Alike bag (m.of_two at.now.node.now.quants (m.outer_rows at.now.node.now (m.quant_rows at.now.node.now (plan.family at.now)) (env_of env.now)))) }
     ensures counted { (start : ℕ) → Counted start steps.old tally.old.count → Counted start steps.new tally.new.count }
     ensures took { (kept : ℕ → Bool) → plan.KeepsAt at.now kept → IfOk result (λ bag. Between 0 (under_each at.now.node.now.quants (plan.asked_at at.now kept) (env_of env.now)) steps.old steps.new) }
+    ensures taken { (kept : ℕ → Bool) → plan.SeeksAt at.now kept → IfOk result (λ bag. Between 0 (under_each at.now.node.now.quants (plan.asked_takings_at at.now kept) (env_of env.now)) tally.old.taken tally.new.taken) }
 {
     let [p, q, ..] = at.loops else {
         return Ok(Bag::new(at.run.alloc));

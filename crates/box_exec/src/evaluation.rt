@@ -2,6 +2,7 @@
 ghost use Rattle.std.specs.Prelude.{◌≡◌, IfOk, IsOkAnd, true, false, unwrap_or};
 ghost use Rattle.qgm_terms.specs.Shown.{choices, cond, conds, links, sign, term};
 ghost use Rattle.qgm_terms.specs.Terms.{armed};
+ghost use Rattle.row_bag.specs.RowRefs.{lent};
 ghost use Rattle.sql_value.specs.Arithmetic as arithmetic;
 ghost use Rattle.sql_value.specs.Comparison as comparisons;
 ghost use Rattle.sql_value.specs.Truths as truths;
@@ -14,10 +15,10 @@ ghost use Rattle.box_exec.specs.Lists as lists;
 ghost use Rattle.qgm_meaning.specs.Values as meaning;
 
 use crate::bindings::{Bindings, column};
-use crate::operand::{Operand, standing};
+use crate::operand::{OperandCell, standing};
 use crate::source::{Sub, rows_of, way_of};
 use qgm_terms::{Arm, Gc, Gx, Link, Op, QuantId, Sign};
-use row_bag::{Row, presence, scalar};
+use row_bag::{RowRef, presence, scalar};
 use row_index::{first_of, next_of};
 use shared_types::OutOfMemory;
 use sql_value::{
@@ -26,17 +27,17 @@ use sql_value::{
 };
 use std::alloc::Global;
 
-// A text as a cell.
+/// A text as a cell.
 #[inline(never)]
-fn text(alloc: Global, characters: &Text) -> Result<Cell, OutOfMemory>
+pub(crate) fn text(alloc: Global, characters: &Text) -> Result<Cell, OutOfMemory>
     ensures { IfOk result (λ cell. cell ≡ Cell.Text characters.now) }
 {
     Ok(Cell::Text(characters.copy(alloc)?))
 }
 
-// An operation on two cells.
+/// An operation on two cells.
 #[inline(never)]
-fn operate(alloc: Global, op: Op, a: &Cell, b: &Cell) -> Result<Cell, OutOfMemory>
+pub(crate) fn operate(alloc: Global, op: Op, a: &Cell, b: &Cell) -> Result<Cell, OutOfMemory>
     ensures { IfOk result (λ cell. cell ≡ meaning.operate op a.now b.now) }
 {
     match op {
@@ -69,8 +70,8 @@ fn comparison(s: Sign, a: &Cell, b: &Cell) -> Truth
 #[inline(never)]
 fn compared(
     s: Sign,
-    a: Result<Operand<'_>, OutOfMemory>,
-    b: Result<Operand<'_>, OutOfMemory>,
+    a: Result<OperandCell<'_>, OutOfMemory>,
+    b: Result<OperandCell<'_>, OutOfMemory>,
 ) -> Result<Truth, OutOfMemory>
     ensures { IfOk result (λ truth. IsOkAnd a.entry (λ x. IsOkAnd b.entry (λ y. truth ≡ meaning.compared (sign s) (cell_held x) (cell_held y)))) }
 {
@@ -142,7 +143,10 @@ pub fn value(alloc: Global, x: &Gx, subs: &[Sub<'_>], env: &Bindings) -> Result<
         Gx::Int(number) => Ok(Cell::Int(*number)),
         Gx::Text(characters) => text(alloc, characters),
         Gx::Col(q, k) => column(alloc, env, *q, *k),
-        Gx::Scalar(q) => scalar(alloc, rows_of(subs, *q)),
+        Gx::Scalar(q) => match rows_of(subs, *q) {
+            Some(rows) => scalar(alloc, rows),
+            None => Ok(Cell::Null),
+        },
         Gx::Chain(a, list) => {
             let first = value(alloc, a, subs, env)?;
             chain(alloc, first, list, subs, env)
@@ -227,12 +231,12 @@ fn operand<'a>(
     x: &Gx,
     subs: &[Sub<'_>],
     env: &Bindings<'a>,
-) -> Result<Operand<'a>, OutOfMemory>
+) -> Result<OperandCell<'a>, OutOfMemory>
     ensures { IfOk result (λ o. cell_held o ≡ meaning.value (held_by subs.now) (term x.now) (env_of env.now)) }
 {
     match standing(x, env) {
-        Some(cell) => Ok(Operand::Borrowed(cell)),
-        None => Ok(Operand::Made(value(alloc, x, subs, env)?)),
+        Some(cell) => Ok(OperandCell::Borrowed(cell)),
+        None => Ok(OperandCell::Made(value(alloc, x, subs, env)?)),
     }
 }
 
@@ -314,7 +318,9 @@ fn quantified(
 ) -> Result<Truth, OutOfMemory>
     ensures { IfOk result (λ truth. truth ≡ idle.quantified holds (λ cells. meaning.truth (held_by subs.now) (cond p.now) (meaning.bound q cells (env_of env.now))) (held_by subs.now q)) }
 {
-    let rows = rows_of(subs, q);
+    let Some(rows) = rows_of(subs, q) else {
+        return Ok(decided(holds));
+    };
     let way = way_of(alloc, subs, holds, q, p, env)?;
     let mut truth = decided(holds);
     let mut c = first_of(&way);
@@ -323,7 +329,7 @@ fn quantified(
         if is_wholly(truth, !holds) {
             return Ok(truth);
         }
-        let counted = row_truth(alloc, holds, q, p, &rows[i], subs, env)?;
+        let counted = row_truth(alloc, holds, q, p, rows.at(i), subs, env)?;
         truth = joined(holds, truth, counted);
         c = next_of(&way, c);
         i = c.place();
@@ -339,16 +345,16 @@ fn row_truth(
     holds: bool,
     q: QuantId,
     p: &Gc,
-    row: &Row,
+    row: RowRef<'_>,
     subs: &[Sub<'_>],
     env: &Bindings,
 ) -> Result<Truth, OutOfMemory>
-    ensures { IfOk result (λ truth. truth ≡ idle.row_truth holds (λ cells. meaning.truth (held_by subs.now) (cond p.now) (meaning.bound q cells (env_of env.now))) row.now) }
+    ensures { IfOk result (λ truth. truth ≡ idle.row_truth holds (λ cells. meaning.truth (held_by subs.now) (cond p.now) (meaning.bound q cells (env_of env.now))) (lent row.entry)) }
 {
     match row.level {
         Level::No => Ok(decided(holds)),
         Level::Cardinality | Level::Division | Level::Overflow | Level::Yes => {
-            let inside = Bindings::Row(q, row.cells.as_slice(), &*env);
+            let inside = Bindings::Row(q, row.cells, &*env);
             counted(holds, row.level, hold(alloc, p, subs, &inside))
         }
     }

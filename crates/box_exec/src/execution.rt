@@ -1,8 +1,9 @@
 // The execution of a graph.
-ghost use Rattle.std.specs.Prelude.{◌≡◌, ◌<◌, ◌≤◌, ◌+◌, ◌-◌, IfOk, min};
+ghost use Rattle.std.specs.Prelude.{◌≡◌, ◌<◌, ◌≤◌, ◌+◌, ◌-◌, IfOk, min, true};
 ghost use Rattle.box_exec.specs.Closed.{AllClosed, NamesBound, closed_number, reached_number};
 ghost use Rattle.box_exec.specs.Kept.{Took};
 ghost use Rattle.box_exec.specs.Ready.{AllFit};
+ghost use Rattle.box_exec.specs.Taken.{ways_number};
 ghost use Rattle.qgm_meaning.specs.Meaning.{root_bag};
 ghost use Rattle.qgm_meaning.specs.Plain.{plain};
 ghost use Rattle.row_bag.specs.Bags.{Agree};
@@ -37,6 +38,7 @@ fn executed<L: Ledger>(
     ensures exact { IfOk result (λ r. NamesBound graph.now → AllClosed graph.now → steps.new ≡ steps.old + reached_number graph.now) }
     ensures at_least_closed { IfOk result (λ r. NamesBound graph.now → steps.old + closed_number graph.now ≤ steps.new) }
     ensures at_most_plain { IfOk result (λ r. NamesBound graph.now → steps.new ≤ steps.old + plain tables.now graph.now) }
+    ensures at_most_ways { indexed ≡ true → IfOk result (λ r. NamesBound graph.now → r.1.taken ≤ ways_number tables.now graph.now) }
 {
     let nodes = graph.nodes();
     let root = graph.root();
@@ -86,6 +88,7 @@ pub fn execute_taken<L: Ledger, M: Ledger>(
     ensures at_most_plain { IfOk result (λ r. NamesBound graph.now → steps.new ≤ steps.old + plain tables.now graph.now) }
     ensures taken { IfOk result (λ r. r.2 ≡ min (taken.new - taken.old) 18446744073709551615) }
     ensures taken_never_less { taken.old ≤ taken.new }
+    ensures at_most_ways { IfOk result (λ r. NamesBound graph.now → taken.new ≤ taken.old + ways_number tables.now graph.now) }
 {
     let (rows, tally) = executed(alloc, graph, tables, true, steps)?;
     tick_all(tally.taken, taken);

@@ -10,14 +10,14 @@ ghost use Rattle.qgm_terms.specs.Shown.{aggregate, taken, term, terms};
 ghost use Rattle.row_bag.specs.Bags.{Alike};
 ghost use Rattle.row_bag.specs.Errors.{error_among, error_in};
 ghost use Rattle.row_bag.specs.Groups.{key_error};
+ghost use Rattle.row_bag.specs.RowRefs.{lent};
 
 use crate::bindings::Bindings;
 use crate::evaluation::value;
 use crate::heads::append_head;
-use crate::source::Source;
 use group_states::{Fold, GroupTable, append_values, states_of, take_row};
 use qgm_core::{Gx, QuantId};
-use row_bag::{Bag, Row, error_at, failed_row, key_error_of, worst_of};
+use row_bag::{Bag, Operand, Row, RowRef, error_at, failed_row, key_error_of, worst_of};
 use shared_types::OutOfMemory;
 use sql_value::{Aggregate, Cell, Kind, Level, Taken};
 use sqlite_items::Items;
@@ -128,12 +128,12 @@ fn asked(
     keys: &[Gx],
     folds: &[Gx],
     quant: QuantId,
-    row: &Row,
+    row: RowRef<'_>,
     env: &Bindings,
 ) -> Result<Row, OutOfMemory>
-    ensures { IfOk result (λ made. made ≡ spec.asked (terms keys.now) (terms folds.now) quant (env_of env.now) row.now) }
+    ensures { IfOk result (λ made. made ≡ spec.asked (terms keys.now) (terms folds.now) quant (env_of env.now) (lent row.entry)) }
 {
-    let inside = Bindings::Row(quant, row.cells.as_slice(), &*env);
+    let inside = Bindings::Row(quant, row.cells, &*env);
     let mut cells = Vec::with_capacity(alloc, keys.len().saturating_add(folds.len()))?;
     append_head(alloc, keys, &[], &inside, &mut cells)?;
     append_arguments(alloc, folds, &inside, &mut cells)?;
@@ -156,7 +156,7 @@ fn groups_of(
     keys: &[Gx],
     folds: &[Gx],
     quant: QuantId,
-    rows: &[Row],
+    rows: &Bag,
     env: &Bindings,
 ) -> Result<KeyedGroups, OutOfMemory>
     ensures table { IfOk result (λ made. HasRows (length keys.now) (map spec.fold_of (terms folds.now)) (map (spec.asked (terms keys.now) (terms folds.now) quant (env_of env.now)) rows.now) made.table) }
@@ -164,8 +164,8 @@ fn groups_of(
 {
     let mut table = GroupTable::new(alloc, keys.len(), folds_of(alloc, folds)?)?;
     let mut error = None;
-    for row in rows {
-        let made = asked(alloc, keys, folds, quant, row, env)?;
+    for i in 0..rows.len() {
+        let made = asked(alloc, keys, folds, quant, rows.at(i), env)?;
         error = worst_of(error, key_error_of(&made, keys.len()));
         table = table.taken(alloc, &made)?;
     }
@@ -178,7 +178,7 @@ fn by_keys(
     keys: &[Gx],
     folds: &[Gx],
     quant: QuantId,
-    rows: &[Row],
+    rows: &Bag,
     env: &Bindings,
 ) -> Result<Bag, OutOfMemory>
     ensures { IfOk result (λ made. Alike made (spec.by_keys (terms keys.now) (terms folds.now) quant (env_of env.now) rows.now)) }
@@ -191,19 +191,19 @@ fn by_keys(
 }
 
 // The error that the level of a row is.
-fn level_error_of(row: &Row) -> Option<Kind>
-    ensures { result ≡ spec.level_error_of row.now }
+fn level_error_of(row: RowRef<'_>) -> Option<Kind>
+    ensures { result ≡ spec.level_error_of (lent row.entry) }
 {
     error_at(row.level)
 }
 
 // The greatest error that the level of a row is.
-fn level_error(rows: &[Row]) -> Option<Kind>
+fn level_error(rows: &Bag) -> Option<Kind>
     ensures { result ≡ error_among (λ cells. error_in []) rows.now }
 {
     let mut found = None;
-    for row in rows {
-        found = worst_of(found, level_error_of(row));
+    for i in 0..rows.len() {
+        found = worst_of(found, level_error_of(rows.at(i)));
     }
     found
 }
@@ -213,15 +213,15 @@ fn whole_cells(
     alloc: Global,
     folds: &[Gx],
     quant: QuantId,
-    rows: &[Row],
+    rows: &Bag,
     env: &Bindings,
 ) -> Result<Vec<Cell>, OutOfMemory>
     ensures { IfOk result (λ cells. cells.items ≡ map (m.fold_cell quant (env_of env.now) rows.now) (terms folds.now)) }
 {
     let asked_for = folds_of(alloc, folds)?;
     let mut states = states_of(alloc, &asked_for)?;
-    for row in rows {
-        let made = asked(alloc, &[], folds, quant, row, env)?;
+    for i in 0..rows.len() {
+        let made = asked(alloc, &[], folds, quant, rows.at(i), env)?;
         take_row(alloc, &mut states, 0, &made)?;
     }
     let mut cells = Vec::with_capacity(alloc, folds.len())?;
@@ -234,7 +234,7 @@ fn whole(
     alloc: Global,
     folds: &[Gx],
     quant: QuantId,
-    rows: &[Row],
+    rows: &Bag,
     env: &Bindings,
 ) -> Result<Bag, OutOfMemory>
     ensures { IfOk result (λ made. made ≡ m.grouped_rows 0 (terms folds.now) quant (env_of env.now) rows.now) }
@@ -274,7 +274,7 @@ fn in_groups(
     keys: usize,
     head: &[Gx],
     quant: QuantId,
-    rows: &[Row],
+    rows: &Bag,
     env: &Bindings,
 ) -> Result<Bag, OutOfMemory>
     ensures { IfOk result (λ made. Alike made (m.grouped_rows keys (terms head.now) quant (env_of env.now) rows.now)) }
@@ -296,7 +296,7 @@ pub(crate) fn grouped(
     keys: usize,
     head: &[Gx],
     quant: QuantId,
-    rows: Result<Source<'_>, OutOfMemory>,
+    rows: Result<Operand<'_>, OutOfMemory>,
     env: &Bindings,
 ) -> Result<Bag, OutOfMemory>
     ensures { IfOk result (λ made. IsOkAnd rows.entry (λ s. Alike made (m.grouped_rows keys (terms head.now) quant (env_of env.now) (held s)))) }

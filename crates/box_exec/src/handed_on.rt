@@ -4,8 +4,11 @@ ghost use Rattle.box_exec.specs.Costs.{Between, Keeps, asked, is_held};
 ghost use Rattle.box_exec.specs.Counted.{Counted};
 ghost use Rattle.box_exec.specs.HandedOn.{HandsOn, InOrder, is_wide};
 ghost use Rattle.box_exec.specs.Lasting.{AllPlanned};
+ghost use Rattle.box_exec.specs.Plans.{SeeksIn};
 ghost use Rattle.box_exec.specs.Ready.{Entry, Fit, Held, Ready};
 ghost use Rattle.box_exec.specs.Sources.{held};
+ghost use Rattle.box_exec.specs.Taken.{taken_by};
+ghost use Rattle.box_exec.specs.Takings.{asked_takings};
 ghost use Rattle.qgm_core.specs.Kinds as kinds;
 ghost use Rattle.qgm_core.specs.declared.kinds.BoxKind.TheVariants as kind;
 ghost use Rattle.qgm_meaning.specs.Meaning.{bag_in, rows_of};
@@ -18,12 +21,11 @@ ghost use Rattle.row_bag.specs.declared.tables.Table.{Table};
 
 use crate::bindings::Bindings;
 use crate::boxes::{evaluated, step};
-use crate::source::Source;
 use crate::tally::Tally;
 use crate::under::{BoxOver, Run, behind, kept, place_of};
 use qgm_core::{BoxKind, Node, OwnedQuant};
 use qgm_terms::{Gx, QuantId};
-use row_bag::{Bag, Row, Tables};
+use row_bag::{Bag, Operand, Tables};
 use shared_types::OutOfMemory;
 use std::alloc::Global;
 use std::sync::ledger::Ledger;
@@ -78,14 +80,19 @@ fn handed_on(node: &Node) -> Option<OwnedQuant>
 }
 
 // Whether each row has so many cells.
-fn is_wide(rows: &[Row], width: usize) -> bool
+fn is_wide(rows: &Bag, width: usize) -> bool
     ensures { result ≡ is_wide width rows.now }
 {
-    rows.iter().all(|row| row.cells.len() == width)
+    for i in 0..rows.len() {
+        if rows.at(i).cells.len() != width {
+            return false;
+        }
+    }
+    true
 }
 
 // Where the rows that a box hands on are kept.
-fn handed_place(memo: &[Option<Source<'_>>], place: &BoxOver<'_>) -> Option<usize>
+fn handed_place(memo: &[Option<Operand<'_>>], place: &BoxOver<'_>) -> Option<usize>
     ensures held { IfSome result (λ k. is_held (slice_get memo.now k) ≡ true) }
     ensures entry { (tables : List Table) → Ready tables memo.now place.now.below.now → IfSome result (λ k. Entry tables place.now.node.now place.now.below.now (slice_get memo.now k)) }
 {
@@ -107,17 +114,17 @@ fn handed_place(memo: &[Option<Source<'_>>], place: &BoxOver<'_>) -> Option<usiz
 }
 
 // The rows at this place, if they are kept and stand elsewhere.
-fn borrowed<'t>(memo: &[Option<Source<'t>>], k: usize) -> Option<&'t [Row]>
+fn borrowed<'t>(memo: &[Option<Operand<'t>>], k: usize) -> Option<&'t Bag>
     ensures { IfSome result (λ rows. Held (slice_get memo.now k) rows.now) }
 {
     match memo.get(k) {
-        Some(Some(Source::Borrowed(rows))) => Some(*rows),
-        Some(Some(Source::Made(_))) | Some(None) | None => None,
+        Some(Some(Operand::Borrowed(rows))) => Some(*rows),
+        Some(Some(Operand::Made(_))) | Some(None) | None => None,
     }
 }
 
 /// The rows that a box hands on, if they are kept and stand elsewhere.
-pub(crate) fn lent<'t>(memo: &[Option<Source<'t>>], place: &BoxOver<'_>) -> Option<&'t [Row]>
+pub(crate) fn lent<'t>(memo: &[Option<Operand<'t>>], place: &BoxOver<'_>) -> Option<&'t Bag>
     ensures { (tables : List Table) → Ready tables memo.now place.now.below.now → IfSome result (λ rows. (env : Environment) → Alike rows.now (rows_of tables place.now.node.now (bag_in tables place.now.below.now) env)) }
 {
     let Some(k) = handed_place(memo, place) else {
@@ -127,7 +134,7 @@ pub(crate) fn lent<'t>(memo: &[Option<Source<'t>>], place: &BoxOver<'_>) -> Opti
 }
 
 // The rows that are kept at this place.
-fn taken<'t>(mut memo: Vec<Option<Source<'t>>>, k: usize) -> Source<'t>
+fn taken<'t>(mut memo: Vec<Option<Operand<'t>>>, k: usize) -> Operand<'t>
     requires { is_held (slice_get memo.items k) ≡ true }
     ensures { Held (slice_get memo.entry.items k) (held result) }
 {
@@ -142,7 +149,7 @@ fn taken<'t>(mut memo: Vec<Option<Source<'t>>>, k: usize) -> Source<'t>
 pub(crate) fn root_rows<L: Ledger>(
     alloc: Global,
     tables: &Tables,
-    memo: Vec<Option<Source<'_>>>,
+    memo: Vec<Option<Operand<'_>>>,
     root: &BoxOver<'_>,
     steps: &mut Steps<L>,
     tally: &mut Tally,
@@ -153,6 +160,7 @@ pub(crate) fn root_rows<L: Ledger>(
     ensures rows { IfOk result (λ bag. Alike bag (rows_of tables.now root.now.node.now (bag_in tables.now root.now.below.now) [])) }
     ensures counted { (start : ℕ) → Counted start steps.old tally.old.count → Counted start steps.new tally.new.count }
     ensures took { (kept : ℕ → Bool) → Keeps memo.entry.items kept root.now.below.now → IfOk result (λ bag. Between 1 (counted_by root.now.node.now.parts.kind root.now.node.now (bag_in tables.now root.now.below.now) (asked tables.now kept root.now.below.now) []) steps.old steps.new) }
+    ensures taken { (kept : ℕ → Bool) → SeeksIn root.now.indexed memo.entry.items root.now.plans.now kept root.now.node.now root.now.below.now → IfOk result (λ bag. Between 0 (taken_by kept root.now.node.now.parts.kind root.now.node.now (bag_in tables.now root.now.below.now) (asked_takings tables.now kept root.now.below.now) []) tally.old.taken tally.new.taken) }
 {
     let Some(k) = handed_place(&memo, root) else {
         let run = Run {

@@ -9,18 +9,19 @@ ghost use Rattle.qgm_terms.specs.Terms.{Cond, Term, compare};
 use crate::bindings::Bindings;
 use crate::evaluation::value;
 use crate::key::{Equality, Key, sided};
+use crate::simple::is_simple;
 use qgm_core::{Gc, Gx, QuantId};
 use qgm_terms::Sign;
-use row_bag::Row;
+use row_bag::Bag;
 use shared_types::OutOfMemory;
 use sql_value::Cell;
 use std::alloc::Global;
 
 // Whether the first cell of an expression in rows of a quantifier that is a value is a text.
-fn are_texts(alloc: Global, own: &Gx, q: QuantId, rows: &[Row]) -> Result<bool, OutOfMemory> {
+fn are_texts(alloc: Global, own: &Gx, q: QuantId, rows: &Bag) -> Result<bool, OutOfMemory> {
     let alone = Bindings::Empty;
-    for row in rows {
-        let env = Bindings::Row(q, row.cells.as_slice(), &alone);
+    for i in 0..rows.len() {
+        let env = Bindings::Row(q, rows.at(i).cells, &alone);
         match value(alloc, own, &[], &env)? {
             Cell::Int(_) => return Ok(false),
             Cell::Text(_) => return Ok(true),
@@ -53,21 +54,22 @@ fn of_type(texts: bool) -> Equality
     }
 }
 
-// The keys of a comparison, if it tells that rows count for nothing, and the other side is a column.
+// The keys of a comparison, if it tells that rows count for nothing, and the other side is of columns,
+// constants and operators.
 fn idle_key<'a>(
     alloc: Global,
     s: Sign,
     key: Key<'a>,
     holds: bool,
     q: QuantId,
-    rows: &[Row],
+    rows: &Bag,
 ) -> Result<Vec<Key<'a>>, OutOfMemory>
     ensures { IfOk result (λ made. (a b : Term) → AreEither q a b key.entry → All (λ k. spec.Idles holds q (compare (sign s) a b) k) made.items) }
 {
     let mut made = Vec::new(alloc);
-    let Gx::Col(_, _) = key.other else {
+    if !is_simple(alloc, key.other)? {
         return Ok(made);
-    };
+    }
     let texts = are_texts(alloc, key.own, q, rows)?;
     if let Some(by) = telling(s, holds, texts) {
         made.push(Key {
@@ -86,7 +88,7 @@ fn idle_sides<'a>(
     found: Result<Option<Key<'a>>, OutOfMemory>,
     holds: bool,
     q: QuantId,
-    rows: &[Row],
+    rows: &Bag,
 ) -> Result<Vec<Key<'a>>, OutOfMemory>
     ensures { IfOk result (λ made. IsOkAnd found.entry (λ o. (a b : Term) → IfSome o (λ k. AreEither q a b k) → All (λ k. spec.Idles holds q (compare (sign s) a b) k) made.items)) }
 {
@@ -104,7 +106,7 @@ pub(crate) fn idle_keys<'a>(
     c: &'a Gc,
     holds: bool,
     q: QuantId,
-    rows: &[Row],
+    rows: &Bag,
 ) -> Result<Vec<Key<'a>>, OutOfMemory>
     ensures { IfOk result (λ made. All (λ k. spec.Idles holds q (cond c.now) k) made.items) }
 {
@@ -139,7 +141,7 @@ fn idle_parts<'a>(
     list: &'a [Gc],
     holds: bool,
     q: QuantId,
-    rows: &[Row],
+    rows: &Bag,
 ) -> Result<Vec<Key<'a>>, OutOfMemory>
     ensures { (c : Cond) → All (λ k. spec.Idles holds q (spec.parted holds c (conds list.now)) k) made.entry.items → IfOk result (λ r. All (λ k. spec.Idles holds q (spec.parted holds c (conds list.now)) k) r.items) }
 {

@@ -5,7 +5,7 @@ ghost use Rattle.box_exec.specs.Indexed.{IsIdleIndex};
 use crate::idle::idle_keys;
 use crate::lookup::{Hashed, hashed_by};
 use qgm_core::{Gc, QuantId};
-use row_bag::Row;
+use row_bag::Bag;
 use shared_types::OutOfMemory;
 use std::alloc::Global;
 
@@ -25,7 +25,7 @@ fn indexed_by<'a>(
     c: &'a Gc,
     holds: bool,
     q: QuantId,
-    rows: &[Row],
+    rows: &Bag,
 ) -> Result<Option<IdleIndex<'a>>, OutOfMemory>
     ensures { IfOk result (λ o. IfSome o (λ x. IsIdleIndex rows.now x)) }
 {
@@ -72,7 +72,7 @@ pub(crate) fn indexed_in<'a>(
     alloc: Global,
     list: &'a [Gc],
     q: QuantId,
-    rows: &[Row],
+    rows: &Bag,
 ) -> Result<Option<IdleIndex<'a>>, OutOfMemory>
     ensures { IfOk result (λ o. IfSome o (λ x. IsIdleIndex rows.now x)) }
 {

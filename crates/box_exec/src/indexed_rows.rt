@@ -11,10 +11,10 @@ use crate::bindings::Bindings;
 use crate::idle_index::IdleIndex;
 use crate::key::{Key, is_plain};
 use crate::lookup::all_rows;
-use crate::operand::standing;
+use crate::simple::simple_operand;
 use qgm_core::{Gc, QuantId};
 use qgm_term_search::same_cond;
-use row_bag::Row;
+use row_bag::Bag;
 use row_index::{Way, feed};
 use shared_types::OutOfMemory;
 use std::alloc::Global;
@@ -24,7 +24,7 @@ use std::marker::Model;
 /// Rows of an E or A quantifier, and an index of them. Contracts see the rows.
 #[derive(Drop)]
 pub struct IndexedRows<'a> {
-    rows: &'a [Row],
+    rows: &'a Bag,
     index: &'a IdleIndex<'a>,
 }
 
@@ -41,27 +41,28 @@ impl<'a> Model for IndexedRows<'a> {
     ghost invariant = { λ f. IsIdleIndex f.rows.now f.index.now };
 }
 
-// The hash of the other sides of keys, where each is a column whose cell is plain.
+// The hash of the other sides of keys, where each is of columns, constants and operators, and its cell is plain.
 #[tactic(auto, unfolding(row_bag::specs::Hashes::hash_of))]
-fn hash_at(keys: &[Key<'_>], env: &Bindings) -> Option<u64>
-    ensures { IfSome result (λ hash. Aims keys.now (env_of env.now) (Hash hash)) }
+fn hash_at(alloc: Global, keys: &[Key<'_>], env: &Bindings) -> Result<Option<u64>, OutOfMemory>
+    ensures { IfOk result (λ o. IfSome o (λ hash. Aims keys.now (env_of env.now) (Hash hash))) }
 {
     let mut hasher = FoldHasher::default();
     for key in keys {
-        let Some(cell) = standing(key.other, env) else {
-            return None;
+        let Some(other) = simple_operand(alloc, key.other, env)? else {
+            return Ok(None);
         };
+        let cell = other.cell();
         if !is_plain(key.by, cell) {
-            return None;
+            return Ok(None);
         }
         feed(cell, &mut hasher);
     }
-    Some(hasher.finish())
+    Ok(Some(hasher.finish()))
 }
 
 impl<'a> IndexedRows<'a> {
     /// Rows, and their index.
-    pub(crate) fn new(rows: &'a [Row], index: &'a IdleIndex<'a>) -> IndexedRows<'a>
+    pub(crate) fn new(rows: &'a Bag, index: &'a IdleIndex<'a>) -> IndexedRows<'a>
         requires { IsIdleIndex rows.now index.now }
         ensures { result ≡ rows.now }
     {
@@ -69,7 +70,7 @@ impl<'a> IndexedRows<'a> {
     }
 
     /// The rows.
-    pub(crate) fn rows(&self) -> &'a [Row]
+    pub(crate) fn rows(&self) -> &'a Bag
         ensures { result.now ≡ self.now }
     {
         self.rows
@@ -92,7 +93,7 @@ impl<'a> IndexedRows<'a> {
         if index.quant != q || index.holds != holds || !same_cond(alloc, index.condition, c)? {
             return Ok(all_rows(end));
         }
-        match hash_at(&index.hashed.keys, env) {
+        match hash_at(alloc, &index.hashed.keys, env)? {
             Some(hash) => Ok(Way {
                 end,
                 index: Some(&index.hashed.index),

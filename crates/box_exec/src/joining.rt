@@ -1,6 +1,6 @@
 // The rows of an outer join (SQL-92, 7.5). Right rows are found by the hashes of the cells that equalities
 // among its conditions ask for.
-ghost use Rattle.std.specs.Prelude.{◌≡◌, [], All, IfOk, IfSome, IsOkAnd, OnOk};
+ghost use Rattle.std.specs.Prelude.{◌≡◌, [], All, IfOk, IfSome, IsOkAnd};
 ghost use Rattle.box_exec.specs.Bound.{env_of};
 ghost use Rattle.box_exec.specs.Lookup.{Hashes, Leads, RejectsBy};
 ghost use Rattle.box_exec.specs.Outer.{HashedOn, joined_rows, null_row, partner_rows, rejects_on};
@@ -12,9 +12,8 @@ use crate::bindings::Bindings;
 use crate::heads::{add_given, head_cells};
 use crate::key::{Key, key_in};
 use crate::lookup::{Hashed, hashed_by, way_through};
-use crate::source::Source;
 use qgm_core::{Node, QuantId};
-use row_bag::{Bag, Row, any_there, append_kept};
+use row_bag::{Bag, Operand, Row, any_there, append_kept};
 use row_index::{Way, first_of, next_of};
 use shared_types::OutOfMemory;
 use sql_value::{Cell, Level};
@@ -35,7 +34,7 @@ pub(crate) struct Join<'a> {
 /// Right rows, and their index if there is one.
 #[derive(Clone, Copy)]
 pub(crate) struct Right<'r, 'h, 'k> {
-    pub rows: &'r [Row],
+    pub rows: &'r Bag,
     pub hashed: Option<&'h Hashed<'k>>,
 }
 
@@ -58,7 +57,7 @@ pub(crate) fn hashed_right<'a>(
     alloc: Global,
     node: &'a Node,
     right: QuantId,
-    ys: &[Row],
+    ys: &Bag,
 ) -> Result<Option<Hashed<'a>>, OutOfMemory>
     ensures { IfOk result (λ o. IfSome o (λ h. Hashes (rejects_on node.now) right ys.now h)) }
 {
@@ -70,8 +69,8 @@ pub(crate) fn hashed_right<'a>(
 fn hashed_on<'a>(
     alloc: Global,
     join: &Join<'a>,
-    xs: &[Row],
-    ys: &[Row],
+    xs: &Bag,
+    ys: &Bag,
 ) -> Result<Option<Hashed<'a>>, OutOfMemory>
     ensures { IfOk result (λ o. IfSome o (λ h. Hashes (rejects_on join.now.node.now) join.now.right ys.now h)) }
 {
@@ -112,8 +111,8 @@ fn partners(
     let mut c = first_of(&way);
     let mut i = c.place();
     while i < way.end {
-        let y = &rows[i];
-        let inner = Bindings::Row(join.right, y.cells.as_slice(), &outer);
+        let y = rows.at(i);
+        let inner = Bindings::Row(join.right, y.cells, &outer);
         add_given(alloc, join.node, &[], y.level, &inner, &mut made)?;
         c = next_of(&way, c);
         i = c.place();
@@ -153,7 +152,7 @@ fn joined(
     ensures { IfOk result (λ made. Alike made (or_else (partner_rows join.now.node.now join.now.left join.now.right left.now right.now.rows.now (env_of env.now)) (null_row join.now.node.now join.now.left join.now.right left.now (env_of env.now)))) }
 {
     let made = partners(alloc, join, left, right, env)?;
-    if any_there(made.rows()) {
+    if any_there(&made) {
         return Ok(made);
     }
     with_nulls(alloc, join, left, env)
@@ -163,7 +162,7 @@ fn joined(
 fn each_joined(
     alloc: Global,
     join: &Join<'_>,
-    xs: &[Row],
+    xs: &Bag,
     right: &Right<'_, '_, '_>,
     env: &Bindings,
 ) -> Result<Bag, OutOfMemory>
@@ -171,8 +170,9 @@ fn each_joined(
     ensures { IfOk result (λ made. Alike made (joined_rows join.now.node.now join.now.left join.now.right xs.now right.now.rows.now (env_of env.now))) }
 {
     let mut made = Bag::new(alloc);
-    for x in xs {
-        let rows = joined(alloc, join, x.cells.as_slice(), right, env)?;
+    for i in 0..xs.len() {
+        let x = xs.at(i);
+        let rows = joined(alloc, join, x.cells, right, env)?;
         append_kept(&mut made, x.level, rows)?;
     }
     Ok(made)
@@ -182,8 +182,8 @@ fn each_joined(
 fn all_joined(
     alloc: Global,
     join: &Join<'_>,
-    xs: &[Row],
-    ys: &[Row],
+    xs: &Bag,
+    ys: &Bag,
     env: &Bindings,
 ) -> Result<Bag, OutOfMemory>
     requires { IfSome join.now.made (λ h. Hashes (rejects_on join.now.node.now) join.now.right ys.now h.now) }
@@ -209,8 +209,8 @@ fn all_joined(
 pub(crate) fn outer_joined(
     alloc: Global,
     join: &Join<'_>,
-    xs: Result<Source<'_>, OutOfMemory>,
-    ys: Result<Source<'_>, OutOfMemory>,
+    xs: Result<Operand<'_>, OutOfMemory>,
+    ys: Result<Operand<'_>, OutOfMemory>,
     env: &Bindings,
 ) -> Result<Bag, OutOfMemory>
     requires { IfSome join.now.made (λ h. IfOk ys (λ t. Hashes (rejects_on join.now.node.now) join.now.right (held t) h.now)) }

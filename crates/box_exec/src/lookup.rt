@@ -1,15 +1,15 @@
 // Rows of a quantifier, found by the hashes of the cells that equalities ask for.
-ghost use Rattle.std.specs.Prelude.{◌≡◌, ◌<◌, All, Bool, IfOk, IfSome, List, None, ℕ, false, get_or, length, true};
+ghost use Rattle.std.specs.Prelude.{◌≡◌, All, Bool, IfOk, IfSome, List, None, ℕ, length};
 ghost use Rattle.box_exec.specs.Asked as asked;
 ghost use Rattle.box_exec.specs.Bound.{env_of};
 ghost use Rattle.box_exec.specs.Forms.{cell_held};
 ghost use Rattle.box_exec.specs.Equalities.{other_of};
 ghost use Rattle.box_exec.specs.Lookup as spec;
-ghost use Rattle.box_exec.specs.Taken.{takes};
-ghost use Rattle.qgm_meaning.specs.Values.{Environment, bound};
+ghost use Rattle.box_exec.specs.Taken as taken;
+ghost use Rattle.qgm_meaning.specs.Values.{Environment};
 ghost use Rattle.qgm_terms.specs.Shown.{term};
 ghost use Rattle.row_bag.specs.declared.row.Row.{Row};
-ghost use Rattle.row_index.specs.Ways.{Indexes, sees};
+ghost use Rattle.row_index.specs.Ways.{Indexes};
 ghost use Rattle.sql_value.specs.Cells.{cell_compare};
 ghost use Rattle.sql_value.specs.declared.cell.Cell.{Cell};
 ghost use Rattle.std.specs.Ordering.{is_eq};
@@ -17,9 +17,9 @@ ghost use Rattle.std.specs.Ordering.{is_eq};
 use crate::bindings::Bindings;
 use crate::evaluation::value;
 use crate::key::{Key, is_nowhere, is_plain};
-use crate::operand::{Operand, standing};
+use crate::operand::{OperandCell, standing};
 use qgm_core::{Gx, QuantId};
-use row_bag::Row;
+use row_bag::Bag;
 use row_index::{RowIndex, Way, feed, index_of};
 use shared_types::OutOfMemory;
 use sql_value::{Cell, cell_order};
@@ -33,13 +33,20 @@ pub(crate) struct Hashed<'a> {
     pub index: RowIndex,
 }
 
+/// Keys of a quantifier, and an index of its rows by them, if it is made.
+#[derive(Drop)]
+pub(crate) struct Keyed<'a> {
+    pub keys: Vec<Key<'a>>,
+    pub index: Option<RowIndex>,
+}
+
 // The cell of an expression that names no E, A or S quantifier.
-fn cell_of<'a>(alloc: Global, x: &Gx, env: &Bindings<'a>) -> Result<Operand<'a>, OutOfMemory>
+fn cell_of<'a>(alloc: Global, x: &Gx, env: &Bindings<'a>) -> Result<OperandCell<'a>, OutOfMemory>
     ensures { IfOk result (λ o. cell_held o ≡ other_of (term x.now) (env_of env.now)) }
 {
     match standing(x, env) {
-        Some(cell) => Ok(Operand::Borrowed(cell)),
-        None => Ok(Operand::Made(value(alloc, x, &[], env)?)),
+        Some(cell) => Ok(OperandCell::Borrowed(cell)),
+        None => Ok(OperandCell::Made(value(alloc, x, &[], env)?)),
     }
 }
 
@@ -79,13 +86,13 @@ fn row_hashes(
     alloc: Global,
     keys: &[Key<'_>],
     q: QuantId,
-    rows: &[Row],
+    rows: &Bag,
 ) -> Result<Vec<Option<u64>>, OutOfMemory>
     ensures { IfOk result (λ made. made.items ≡ spec.row_hashes q keys.now rows.now) }
 {
     let mut made = Vec::with_capacity(alloc, rows.len())?;
-    for row in rows {
-        made.push(row_hash(alloc, keys, q, row.cells.as_slice())?)?;
+    for i in 0..rows.len() {
+        made.push(row_hash(alloc, keys, q, rows.at(i).cells)?)?;
     }
     Ok(made)
 }
@@ -96,10 +103,9 @@ pub(crate) fn hashed_by<'a>(
     alloc: Global,
     keys: Vec<Key<'a>>,
     q: QuantId,
-    rows: &[Row],
+    rows: &Bag,
 ) -> Result<Option<Hashed<'a>>, OutOfMemory>
-    ensures hashes { (test : Environment → Bool) → All (λ k. spec.RejectsBy test q k) keys.entry.items → IfOk result (λ o. IfSome o (λ h. spec.Hashes test q rows.now h)) }
-    ensures made { IfOk result (λ o. asked.keys_made o ≡ asked.shown_keys keys.entry.items) }
+    ensures { (test : Environment → Bool) → All (λ k. spec.RejectsBy test q k) keys.entry.items → IfOk result (λ o. IfSome o (λ h. spec.Hashes test q rows.now h)) }
 {
     if keys.is_empty() {
         return Ok(None);
@@ -107,6 +113,42 @@ pub(crate) fn hashed_by<'a>(
     let hashes = row_hashes(alloc, &keys, q, rows)?;
     let index = index_of(alloc, &hashes)?;
     Ok(Some(Hashed { keys, index }))
+}
+
+// The index of rows by keys, if it is asked for.
+fn index_if(
+    wanted: bool,
+    alloc: Global,
+    keys: &[Key<'_>],
+    q: QuantId,
+    rows: &Bag,
+) -> Result<Option<RowIndex>, OutOfMemory>
+    ensures { IfOk result (λ o. IfSome o (λ ix. Indexes (spec.row_hashes q keys.now rows.now) ix)) }
+{
+    if !wanted {
+        return Ok(None);
+    }
+    let hashes = row_hashes(alloc, keys, q, rows)?;
+    Ok(Some(index_of(alloc, &hashes)?))
+}
+
+/// The keys of a quantifier, if it has any, and the index of its rows by them, if it is asked for. It fails
+/// only for want of memory.
+pub(crate) fn keyed_by<'a>(
+    indexed: bool,
+    alloc: Global,
+    keys: Vec<Key<'a>>,
+    q: QuantId,
+    rows: &Bag,
+) -> Result<Option<Keyed<'a>>, OutOfMemory>
+    ensures fits { (test : Environment → Bool) → All (λ k. spec.RejectsBy test q k) keys.entry.items → IfOk result (λ o. IfSome o (λ k. spec.FitsKeys test q rows.now k)) }
+    ensures made { IfOk result (λ o. asked.keys_made o ≡ asked.shown_keys keys.entry.items) }
+{
+    if keys.is_empty() {
+        return Ok(None);
+    }
+    let index = index_if(indexed, alloc, &keys, q, rows)?;
+    Ok(Some(Keyed { keys, index }))
 }
 
 /// What the other sides of keys come to where quantifiers are bound: the hash of the rows that can be
@@ -120,8 +162,7 @@ pub(crate) enum Aim {
 // What the other sides of keys come to.
 #[tactic(auto, unfolding(row_bag::specs::Hashes::hash_of))]
 fn aim_of(alloc: Global, keys: &[Key<'_>], env: &Bindings) -> Result<Aim, OutOfMemory>
-    ensures aims { IfOk result (λ aim. spec.Aims keys.now (env_of env.now) aim) }
-    ensures only { IfOk result (λ aim. spec.AimsOnly keys.now (env_of env.now) aim) }
+    ensures { IfOk result (λ aim. spec.Aims keys.now (env_of env.now) aim) }
 {
     let mut hasher = FoldHasher::default();
     let mut plain = true;
@@ -145,7 +186,6 @@ fn aim_of(alloc: Global, keys: &[Key<'_>], env: &Bindings) -> Result<Aim, OutOfM
 pub(crate) fn all_rows<'a>(end: usize) -> Way<'a>
     ensures end { result.end ≡ end }
     ensures all { result.index ≡ None }
-    ensures hash { result.hash ≡ None }
 {
     Way {
         end,
@@ -157,23 +197,23 @@ pub(crate) fn all_rows<'a>(end: usize) -> Way<'a>
 // The way through so many rows by their index.
 fn way_by<'a>(
     alloc: Global,
-    h: &'a Hashed<'_>,
+    keys: &[Key<'_>],
+    index: &'a RowIndex,
     end: usize,
     env: &Bindings,
 ) -> Result<Way<'a>, OutOfMemory>
-    ensures leads { IfOk result (λ way. (test : Environment → Bool) (q : ℕ) (rows : List (Row (List Cell))) → end ≡ length rows → spec.Hashes test q rows h.now → spec.Leads test q rows (env_of env.now) way) }
-    ensures picks { IfOk result (λ way. (q : ℕ) (rows : List (Row (List Cell))) → Indexes (spec.row_hashes q h.now.keys.items rows) h.now.index → asked.Picks h.now.keys.items q rows (env_of env.now) way) }
+    ensures { IfOk result (λ way. (test : Environment → Bool) (q : ℕ) (rows : List (Row (List Cell))) → end ≡ length rows → All (λ k. spec.RejectsBy test q k) keys.now → Indexes (spec.row_hashes q keys.now rows) index.now → spec.Leads test q rows (env_of env.now) way) }
 {
-    match aim_of(alloc, &h.keys, env)? {
+    match aim_of(alloc, keys, env)? {
         Aim::Hash(hash) => Ok(Way {
             end,
-            index: Some(&h.index),
+            index: Some(index),
             hash: Some(hash),
         }),
         Aim::Anywhere => Ok(all_rows(end)),
         Aim::Nowhere => Ok(Way {
             end,
-            index: Some(&h.index),
+            index: Some(index),
             hash: None,
         }),
     }
@@ -186,55 +226,68 @@ pub(crate) fn way_through<'a>(
     end: usize,
     env: &Bindings,
 ) -> Result<Way<'a>, OutOfMemory>
-    ensures leads { IfOk result (λ way. (test : Environment → Bool) (q : ℕ) (rows : List (Row (List Cell))) → end ≡ length rows → IfSome hashed.entry (λ h. spec.Hashes test q rows h.now) → spec.Leads test q rows (env_of env.now) way) }
-    ensures picks { IfOk result (λ way. IfSome hashed.entry (λ h. (q : ℕ) (rows : List (Row (List Cell))) → Indexes (spec.row_hashes q h.now.keys.items rows) h.now.index → asked.Picks h.now.keys.items q rows (env_of env.now) way)) }
+    ensures { IfOk result (λ way. (test : Environment → Bool) (q : ℕ) (rows : List (Row (List Cell))) → end ≡ length rows → IfSome hashed.entry (λ h. spec.Hashes test q rows h.now) → spec.Leads test q rows (env_of env.now) way) }
 {
     match hashed {
-        Some(h) => way_by(alloc, h, end, env),
+        Some(h) => way_by(alloc, &h.keys, &h.index, end, env),
         None => Ok(all_rows(end)),
     }
 }
 
-/// Whether a row that was found by the hash of keys is to be taken. One whose own cells are plain, and others
-/// than the other ones, isn't: it only has the same hash. It fails only for want of memory.
-pub(crate) fn is_met(
+/// The way through so many rows by the index of their keys: past none where none is made. It fails only for
+/// want of memory.
+pub(crate) fn keyed_way<'a>(
+    alloc: Global,
+    k: &'a Keyed<'_>,
+    end: usize,
+    env: &Bindings,
+) -> Result<Way<'a>, OutOfMemory>
+    ensures { IfOk result (λ way. (test : Environment → Bool) (q : ℕ) (rows : List (Row (List Cell))) → end ≡ length rows → spec.FitsKeys test q rows k.now → spec.Leads test q rows (env_of env.now) way) }
+{
+    match &k.index {
+        Some(index) => way_by(alloc, &k.keys, index, end, env),
+        None => Ok(all_rows(end)),
+    }
+}
+
+// Whether a key lets a row pass: one with an error in its own cell; else, where the other cell isn't null
+// beside `=`, each if that is an error, and one whose own cell is the other one.
+fn passes(
+    alloc: Global,
+    key: &Key<'_>,
+    q: QuantId,
+    cells: &[Cell],
+    env: &Bindings,
+) -> Result<bool, OutOfMemory>
+    ensures { IfOk result (λ b. b ≡ taken.passes q (env_of env.now) cells.now (asked.shown_key key.now)) }
+{
+    let alone = Bindings::Empty;
+    let inside = Bindings::Row(q, cells, &alone);
+    let own = cell_of(alloc, key.own, &inside)?;
+    if !is_plain(key.by, own.cell()) {
+        return Ok(true);
+    }
+    let other = cell_of(alloc, key.other, env)?;
+    if is_nowhere(key.by, other.cell()) {
+        return Ok(false);
+    }
+    Ok(!is_plain(key.by, other.cell()) || is_equal(own.cell(), other.cell()))
+}
+
+/// Whether a look-up by keys takes a row: one that all keys let pass. It fails only for want of memory.
+pub(crate) fn takes(
     alloc: Global,
     keys: &[Key<'_>],
     q: QuantId,
     cells: &[Cell],
     env: &Bindings,
 ) -> Result<bool, OutOfMemory>
-    ensures { IfOk result (λ b. b ≡ asked.is_met q keys.now cells.now (env_of env.now)) }
+    ensures { IfOk result (λ b. b ≡ taken.takes (asked.shown_keys keys.now) q (env_of env.now) cells.now) }
 {
-    let alone = Bindings::Empty;
-    let inside = Bindings::Row(q, cells, &alone);
-    let mut equal = true;
     for key in keys {
-        let own = cell_of(alloc, key.own, &inside)?;
-        let other = cell_of(alloc, key.other, env)?;
-        if !is_plain(key.by, own.cell()) || !is_plain(key.by, other.cell()) {
-            return Ok(true);
+        if !passes(alloc, key, q, cells, env)? {
+            return Ok(false);
         }
-        equal = equal && is_equal(own.cell(), other.cell());
     }
-    Ok(equal)
-}
-
-/// Whether a row on a way is taken: without a hash each is, by a hash those that are of the keys. It fails only
-/// for want of memory.
-pub(crate) fn is_found(
-    alloc: Global,
-    h: &Hashed<'_>,
-    way: &Way<'_>,
-    q: QuantId,
-    cells: &[Cell],
-    env: &Bindings,
-) -> Result<bool, OutOfMemory>
-    ensures passed { (test : Environment → Bool) → All (λ k. spec.RejectsBy test q k) h.now.keys.items → IfOk result (λ b. b ≡ false → test (bound q cells.now (env_of env.now)) ≡ true) }
-    ensures taken { (rows : List (Row (List Cell))) (k : ℕ) (r : Row (List Cell)) → asked.Picks h.now.keys.items q rows (env_of env.now) way.now → k < length rows → r ≡ get_or rows k r → r.cells ≡ cells.now → sees way.now k ≡ true → IfOk result (λ b. b ≡ true → takes (asked.shown_keys h.now.keys.items) q (env_of env.now) cells.now ≡ true) }
-{
-    match way.hash {
-        Some(_) => is_met(alloc, &h.keys, q, cells, env),
-        None => Ok(true),
-    }
+    Ok(true)
 }

@@ -11,19 +11,19 @@ use sql_value::Cell;
 
 /// A cell that stands elsewhere, or one that is made.
 #[derive(Drop)]
-pub(crate) enum Operand<'a> {
+pub(crate) enum OperandCell<'a> {
     Borrowed(&'a Cell),
     Made(Cell),
 }
 
-impl<'a> Operand<'a> {
+impl<'a> OperandCell<'a> {
     /// The cell.
     pub(crate) fn cell(&self) -> &Cell
         ensures { result.now ≡ cell_held self.now }
     {
         match self {
-            Operand::Borrowed(cell) => cell,
-            Operand::Made(cell) => cell,
+            OperandCell::Borrowed(cell) => cell,
+            OperandCell::Made(cell) => cell,
         }
     }
 }

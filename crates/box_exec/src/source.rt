@@ -1,5 +1,5 @@
-// Rows that are borrowed or made.
-ghost use Rattle.std.specs.Prelude.{◌≡◌, ◌++◌, ◌∷◌, [], IfOk, IsOkAnd, OnOk};
+// Rows of the E, A and S quantifiers of a box.
+ghost use Rattle.std.specs.Prelude.{◌≡◌, ◌++◌, ◌∷◌, [], IfOk, IfSome, IsOkAnd, None, OnOk};
 ghost use Rattle.box_exec.specs.Bound.{env_of};
 ghost use Rattle.box_exec.specs.Idle.{LeadsIdle};
 ghost use Rattle.box_exec.specs.Sources.{held, held_by, rows_held};
@@ -9,57 +9,28 @@ use crate::bindings::Bindings;
 use crate::indexed_rows::IndexedRows;
 use crate::lookup::all_rows;
 use qgm_terms::{Gc, QuantId};
-use row_bag::{Bag, Row, copied_rows};
+use row_bag::{Bag, Operand};
 use row_index::Way;
 use shared_types::OutOfMemory;
 use std::alloc::Global;
 
-/// Rows that stand elsewhere, or rows of their own.
-#[derive(Drop)]
-pub enum Source<'a> {
-    Borrowed(&'a [Row]),
-    Made(Bag),
-}
-
-impl<'a> Source<'a> {
-    /// The rows.
-    pub fn rows(&self) -> &[Row]
-        ensures { result.now ≡ held self.now }
-    {
-        match self {
-            Source::Borrowed(rows) => rows,
-            Source::Made(bag) => bag.rows(),
-        }
-    }
-
-    /// The rows, copied where they stand elsewhere. It fails only for want of memory.
-    pub fn into_bag(self, alloc: Global) -> Result<Bag, OutOfMemory>
-        ensures { IfOk result (λ bag. bag ≡ held self.entry) }
-    {
-        match self {
-            Source::Borrowed(rows) => copied_rows(alloc, rows),
-            Source::Made(bag) => Ok(bag),
-        }
-    }
-}
-
 /// Rows that are made. It fails where these do.
-pub(crate) fn made<'a>(rows: Result<Bag, OutOfMemory>) -> Result<Source<'a>, OutOfMemory>
+pub(crate) fn made<'a>(rows: Result<Bag, OutOfMemory>) -> Result<Operand<'a>, OutOfMemory>
     ensures { IfOk result (λ s. IsOkAnd rows (λ bag. held s ≡ bag)) }
 {
-    Ok(Source::Made(rows?))
+    Ok(Operand::Made(rows?))
 }
 
 /// Rows of an E, A or S quantifier, some of which have an index.
 #[derive(Drop)]
 pub enum SubRows<'a> {
-    Plain(Source<'a>),
+    Plain(Operand<'a>),
     Indexed(IndexedRows<'a>),
 }
 
 impl<'a> SubRows<'a> {
     // The rows.
-    fn rows(&self) -> &[Row]
+    fn rows(&self) -> &Bag
         ensures { result.now ≡ rows_held self.now }
     {
         match self {
@@ -93,16 +64,17 @@ pub struct Sub<'a> {
     pub rows: SubRows<'a>,
 }
 
-/// The rows of the first of this number, none of one that isn't among them.
-pub fn rows_of<'a>(subs: &'a [Sub], q: QuantId) -> &'a [Row]
-    ensures { result.now ≡ held_by subs.now q }
+/// The rows of the first of this number, if it is among them.
+pub(crate) fn rows_of<'a>(subs: &'a [Sub], q: QuantId) -> Option<&'a Bag>
+    ensures some { IfSome result (λ rows. rows.now ≡ held_by subs.now q) }
+    ensures none { result ≡ None → held_by subs.now q ≡ [] }
 {
     for sub in subs {
         if sub.quant == q {
-            return sub.rows.rows();
+            return Some(sub.rows.rows());
         }
     }
-    &[]
+    None
 }
 
 /// The way through them for a condition of some, or else of every: past such as count for nothing. It
@@ -127,7 +99,7 @@ pub(crate) fn way_of<'a>(
 
 /// Rows without an index. It fails where these do.
 pub(crate) fn unindexed<'a>(
-    rows: Result<Source<'a>, OutOfMemory>,
+    rows: Result<Operand<'a>, OutOfMemory>,
 ) -> Result<SubRows<'a>, OutOfMemory>
     ensures { IfOk result (λ s. IsOkAnd rows.entry (λ t. rows_held s ≡ held t)) }
 {

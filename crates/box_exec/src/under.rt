@@ -9,9 +9,8 @@ ghost use Rattle.qgm_meaning.specs.Meaning.{rows_or_none};
 ghost use Rattle.row_bag.specs.Tables.{bag_named};
 
 use crate::plan::Plan;
-use crate::source::Source;
 use qgm_core::{BoxId, Node, OwnedQuant};
-use row_bag::{Row, Tables};
+use row_bag::{Bag, Operand, Tables};
 use shared_types::{OutOfMemory, Text};
 use std::alloc::Global;
 
@@ -21,7 +20,7 @@ use std::alloc::Global;
 pub(crate) struct Run<'a> {
     pub alloc: Global,
     pub tables: &'a Tables,
-    pub memo: &'a [Option<Source<'a>>],
+    pub memo: &'a [Option<Operand<'a>>],
     pub plans: &'a [Option<Plan<'a>>],
     pub indexed: bool,
 }
@@ -39,7 +38,7 @@ pub(crate) struct BoxOver<'a> {
 /// anew wherever it is asked, or no box.
 #[derive(Clone, Copy)]
 pub(crate) enum Under<'a> {
-    Kept(&'a [Row]),
+    Kept(&'a Bag),
     Open(&'a Node, &'a [Node]),
     Nothing,
 }
@@ -67,17 +66,17 @@ pub(crate) fn behind(nodes: &[Node], i: usize) -> &[Node]
 }
 
 /// The rows of a table, none where there is none of this name.
-pub(crate) fn table_rows<'a>(tables: &'a Tables, name: &Text) -> &'a [Row]
+pub(crate) fn table_rows<'a>(tables: &'a Tables, name: &Text) -> &'a Bag
     ensures { result.now ≡ rows_or_none (bag_named tables.now name.now) }
 {
     match tables.find(name) {
-        Some(bag) => bag.rows(),
-        None => &[],
+        Some(bag) => bag,
+        None => tables.none(),
     }
 }
 
 /// The rows of a box with so many boxes behind it, if they are kept.
-pub(crate) fn kept<'a>(memo: &'a [Option<Source<'_>>], i: usize) -> Option<&'a [Row]>
+pub(crate) fn kept<'a>(memo: &'a [Option<Operand<'_>>], i: usize) -> Option<&'a Bag>
     ensures some { IfSome result (λ rows. Held (slice_get memo.now i) rows.now) }
     ensures none { result ≡ None → is_held (slice_get memo.now i) ≡ false }
 {
@@ -127,11 +126,11 @@ pub(crate) fn loops<'a>(
 }
 
 /// The rows that are kept under a quantifier; none of a box that is evaluated anew.
-pub(crate) fn kept_rows<'a>(l: &Loop<'a>) -> &'a [Row]
+pub(crate) fn kept_rows<'a>(tables: &'a Tables, l: &Loop<'a>) -> &'a Bag
     ensures { result.now ≡ rows_kept l.now.under }
 {
     match l.under {
         Under::Kept(rows) => rows,
-        Under::Open(_, _) | Under::Nothing => &[],
+        Under::Open(_, _) | Under::Nothing => tables.none(),
     }
 }

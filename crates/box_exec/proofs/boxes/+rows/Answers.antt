@@ -1,4 +1,4 @@
-use Rattle.std.proofs.Common.{ℕ, All, Bool, Some, cond, slice_get, append-nil, ◌≡◌, ◌≤◌, ◌<◌, ◌+◌, ◌++◌, true, false, List, length, drop, filter, get_or, take, sym, ap, ◌∙◌, subst, arith, rules}
+use Rattle.std.proofs.Common.{ℕ, All, Bool, Some, cond, slice_get, append-nil, ◌≡◌, ◌≤◌, ◌<◌, ◌+◌, ◌++◌, true, false, List, length, drop, filter, get_or, take, refl, sym, ap, ◌∙◌, subst, arith, rules}
 use Rattle.std.proofs.lemmas.Result.{IfOk-weaker, on_ok_weaker}
 use Rattle.std.specs.Result.{OnOk}
 use Rattle.row_bag.specs.Bags.{Alike, keep}
@@ -10,7 +10,14 @@ use Rattle.qgm_meaning.specs.Values.{Bag, bound}
 use Rattle.sql_value.specs.declared.cell.Cell.{Cell}
 use Rattle.sql_value.specs.declared.level.Level.{Level}
 use Rattle.box_exec.specs.Bound.{env_of}
-use Rattle.box_exec.specs.Plans.{asked_at, cost_at, cost_left, family, left_at, ranges, tables_of}
+use Rattle.box_exec.specs.Plans.{asked_at, asked_takings_at, cost_at, cost_left, family, left_at, ranges, tables_of, takings_at, takings_left}
+use Rattle.box_exec.specs.Sought.{OpensAs}
+use Rattle.box_exec.specs.Taken.{taken_by, ways}
+use Rattle.box_exec.specs.Takings.{PlanSeeks, Seeks}
+use Rattle.box_exec.proofs.Rows.{false-not, row-taken, row_takings, takings-bound, takings-over, text-order}
+use Rattle.box_exec.proofs.Seeking.{row-counts-more}
+use Rattle.qgm_core.specs.declared.kinds.BoxKind.TheVariants.{Select}
+use Rattle.std.specs.List.{list_any}
 use Rattle.box_exec.specs.Costs.{Between, at_level}
 use Rattle.qgm_core.specs.declared.kinds.BoxKind.{BoxKind}
 use Rattle.qgm_meaning.specs.Plain.{counted_by, under_each, under_others, under_rows}
@@ -35,6 +42,8 @@ use Rattle.std.specs.Borrow.{Bor}
 use Rattle.box_exec.specs.Early.{rejects}
 use Rattle.row_bag.specs.Bags.{bind}
 use Rattle.row_bag.proofs.Agreement.{alike-same}
+use Rattle.row_bag.specs.RowRefs.{lent}
+use Rattle.row_bag.proofs.Places.{read-at}
 use Rattle.row_index.specs.Ways.{StandsFrom, place}
 use Rattle.row_index.proofs.Passed.{seen-again, seen-low}
 use Rattle.box_exec.proofs.Quantifiers.{bound-of, combined-rows, free-more, free-same, given-at, group-rows, left-bound, left-over, level-none, outer-rows, past-all, past-ranges, placed, range-at, range-past, range-within, stood, two-at}
@@ -74,10 +83,11 @@ each-loop-i-init g t c =
     let f = λ (cells : List Cell). left_at at (k + 1) (bound l.range.id cells env) in
     record {
       rows = subst (λ (n : ℕ). Alike c.args.out.now (c.args.out.now ++ keep c.args.level (bind (take n rows) f))) (sym c.place-i.ensures)
-          (stepped (rejects at.early.now (k + 1)) l.range.id rows env way c.in_ok-way.ensures.leads f (λ cells h. rejects-all at (bound-of at c.requires.planned) (k + 1) (bound l.range.id cells env) h)
+          (stepped (rejects at.early.now (k + 1)) l.range.id rows env way c.in_ok-way.ensures f (λ cells h. rejects-all at (bound-of at c.requires.planned) (k + 1) (bound l.range.id cells env) h)
           c.args.level c.args.out.now c.args.out.now 0 cursor (omega arith) c.first_of-c.ensures (alike-same (sym (append-nil c.args.out.now))));
       took = λ kept keeps. (omega arith, omega arith);
-      stands = seen-again way 0 cursor c.in_ok-way.ensures.leads.spans (omega arith) c.first_of-c.ensures;
+      taken = λ kept seeks sought. (omega arith, omega arith);
+      stands = seen-again way 0 cursor c.in_ok-way.ensures.spans (omega arith) c.first_of-c.ensures;
       at = c.place-i.ensures;
       counted = λ start h. h;
     }
@@ -93,9 +103,10 @@ each-loop-i-preserved g t c =
     let k = c.args.k in
     let rows = c.rows-rows.result.now in
     let way = c.in_ok-way.way in
-    let leads = c.in_ok-way.ensures.leads in
+    let leads = c.in_ok-way.ensures in
     let i = c.loop-i.i in
-    let r = c.index-rows-i.result in
+    let r = lent c.at-row.result in
+    let is-at = read-at rows i r c.at-row.ensures in
     let level = c.args.level in
     let cursor = c.next_of-c.result in
     let f = λ (cells : List Cell). left_at at (k + 1) (bound l.range.id cells env) in
@@ -110,9 +121,8 @@ each-loop-i-preserved g t c =
     elim c.if-branch-2.branch [
       | each-then-branch-2+in_ok-each w ↦
           let new = w.each-then-branch-2.new.out in
-          let added : Alike new (c.loop-i.out ++ keep w.least-level.result (f r.cells)) =
-          subst (λ (cells : List Cell). Alike new (c.loop-i.out ++ keep w.least-level.result (f cells))) c.as_slice-cells.ensures w.in_ok-each.ensures.rows in
-          let done = each-more level rows i r f c.args.out.now c.loop-i.out new inside c.index-rows-i.is c.loop-i.invariant.rows
+          let added : Alike new (c.loop-i.out ++ keep w.least-level.result (f r.cells)) = w.in_ok-each.ensures.rows in
+          let done = each-more level rows i r f c.args.out.now c.loop-i.out new inside is-at c.loop-i.invariant.rows
           (subst (λ (x : Level). Alike new (c.loop-i.out ++ keep x (f r.cells))) w.least-level.ensures added) in
           let put : new ≡ c.if-branch-2.out = search rules in
           let put-steps : w.each-then-branch-2.new.steps ≡ c.if-branch-2.steps = search rules in
@@ -124,16 +134,32 @@ each-loop-i-preserved g t c =
                 subst (λ (n : ℕ). Between 0 (each_row (cost kept) (take n rows)) c.rows_under.new.steps c.if-branch-2.steps) (sym c.place-i-in-loop-i.ensures)
                 (subst (λ (u : ℕ). Between 0 (each_row (cost kept) (take (place cursor) rows)) c.rows_under.new.steps u) put-steps
                 (rows-past (cost kept) rows (i + 1) (place cursor) c.rows_under.new.steps w.each-then-branch-2.new.steps low
-                (rows-took (cost kept) rows i r level (cost kept c.as_slice-cells.result.now) c.rows_under.new.steps c.loop-i.steps w.each-then-branch-2.new.steps inside c.index-rows-i.is (ap (cost kept) c.as_slice-cells.ensures) (c.loop-i.invariant.took kept keeps)
-                (subst (λ (x : Level). Between 0 (at_level x (cost kept c.as_slice-cells.result.now)) c.loop-i.steps w.each-then-branch-2.new.steps) w.least-level.ensures (w.in_ok-each.ensures.took kept keeps)))));
+                (rows-took (cost kept) rows i r level (cost kept r.cells) c.rows_under.new.steps c.loop-i.steps w.each-then-branch-2.new.steps inside is-at refl (c.loop-i.invariant.took kept keeps)
+                (subst (λ (x : Level). Between 0 (at_level x (cost kept r.cells)) c.loop-i.steps w.each-then-branch-2.new.steps) w.least-level.ensures (w.in_ok-each.ensures.took kept keeps)))));
+            taken = λ kept seeks sought.
+                let yes : c.in_ok-is_taken.field-0 ≡ true = search rules in
+                let bound_to : is_F l.range.kind ≡ true = search rules in
+                let row = row_takings at kept k l.range env in
+                let within = range-within at.loops.now k c.in-Some.ensures.lookup.3.0 in
+                let place-at = range-at at.loops.now k l c.in-Some.ensures.lookup.3.0 c.in-Some.ensures.lookup.1 in
+                let is = row-taken at c.requires.planned kept seeks k l c.in-Some.ensures.lookup.3.0 c.in-Some.ensures.lookup.1 sought bound_to env r.cells c.in_ok-is_taken.field-0 yes c.in_ok-is_taken.ensures.taken in
+                let more : ℕ = under_rows (drop (k + 1) at.node.now.quants) at.node.now.quants (family at) (asked_takings_at at kept) (bound l.range.id r.cells env) in
+                let counts : Between 0 (at_level w.least-level.result (row r.cells)) c.loop-i.tally.taken w.each-then-branch-2.new.tally.taken =
+                row-counts-more kept at.node.now (ranges at.loops.now) (family at) k l.range within place-at more w.least-level.result env r.cells c.loop-i.tally.taken w.take.new.taken w.each-then-branch-2.new.tally.taken is w.take.ensures.took (w.in_ok-each.ensures.taken kept seeks sought) in
+                let put-taken : w.each-then-branch-2.new.tally.taken ≡ c.if-branch-2.tally.taken = search rules in
+                subst (λ (n : ℕ). Between 0 (each_row row (take n rows)) c.rows_under.new.tally.taken c.if-branch-2.tally.taken) (sym c.place-i-in-loop-i.ensures)
+                (subst (λ (u : ℕ). Between 0 (each_row row (take (place cursor) rows)) c.rows_under.new.tally.taken u) put-taken
+                (rows-past row rows (i + 1) (place cursor) c.rows_under.new.tally.taken w.each-then-branch-2.new.tally.taken low
+                (rows-took row rows i r level (row r.cells) c.rows_under.new.tally.taken c.loop-i.tally.taken w.each-then-branch-2.new.tally.taken inside is-at refl (c.loop-i.invariant.taken kept seeks sought)
+                (subst (λ (x : Level). Between 0 (at_level x (row r.cells)) c.loop-i.tally.taken w.each-then-branch-2.new.tally.taken) w.least-level.ensures counts))));
             stands = seen-again way (i + 1) cursor leads.spans next stands;
             at = c.place-i-in-loop-i.ensures;
             counted = λ start h. search (rules, w.in_ok-each.ensures.counted start (c.loop-i.invariant.counted start h));
           }
       | each-else-branch-2 w ↦
           let missed : c.in_ok-is_taken.field-0 ≡ false = search rules in
-          let gone = rejected r.cells (subst (λ (cells : List Cell). rejects at.early.now (k + 1) (bound l.range.id cells env) ≡ true) c.as_slice-cells.ensures (c.in_ok-is_taken.ensures.passed missed)) in
-          let done = each-more level rows i r f c.args.out.now c.loop-i.out c.loop-i.out inside c.index-rows-i.is c.loop-i.invariant.rows (nothing-added (least level r.level) c.loop-i.out (f r.cells) gone) in
+          let gone = rejected r.cells (c.in_ok-is_taken.ensures.passed missed) in
+          let done = each-more level rows i r f c.args.out.now c.loop-i.out c.loop-i.out inside is-at c.loop-i.invariant.rows (nothing-added (least level r.level) c.loop-i.out (f r.cells) gone) in
           let put : c.loop-i.out ≡ c.if-branch-2.out = search rules in
           let put-steps : c.loop-i.steps ≡ c.if-branch-2.steps = search rules in
           record {
@@ -144,6 +170,12 @@ each-loop-i-preserved g t c =
                 subst (λ (n : ℕ). Between 0 (each_row (cost kept) (take n rows)) c.rows_under.new.steps c.if-branch-2.steps) (sym c.place-i-in-loop-i.ensures)
                 (subst (λ (u : ℕ). Between 0 (each_row (cost kept) (take (place cursor) rows)) c.rows_under.new.steps u) put-steps
                 (rows-past (cost kept) rows i (place cursor) c.rows_under.new.steps c.loop-i.steps (omega (arith, low)) (c.loop-i.invariant.took kept keeps)));
+            taken = λ kept seeks sought.
+                let row = row_takings at kept k l.range env in
+                let put-taken : c.loop-i.tally.taken ≡ c.if-branch-2.tally.taken = search rules in
+                subst (λ (n : ℕ). Between 0 (each_row row (take n rows)) c.rows_under.new.tally.taken c.if-branch-2.tally.taken) (sym c.place-i-in-loop-i.ensures)
+                (subst (λ (u : ℕ). Between 0 (each_row row (take (place cursor) rows)) c.rows_under.new.tally.taken u) put-taken
+                (rows-past row rows i (place cursor) c.rows_under.new.tally.taken c.loop-i.tally.taken (omega (arith, low)) (c.loop-i.invariant.taken kept seeks sought)));
             stands = seen-again way (i + 1) cursor leads.spans next stands;
             at = c.place-i-in-loop-i.ensures;
             counted = λ start h. search (rules, c.loop-i.invariant.counted start h);
@@ -155,7 +187,7 @@ each-next_of-c-requires g t c =
     let at = c.loop-i.invariant.at in
     let test = c.loop-i-test.true in
     record {
-      spans = c.in_ok-way.ensures.leads.spans;
+      spans = c.in_ok-way.ensures.spans;
       stands = c.loop-i.invariant.stands;
       within = omega (arith, at, test);
     }
@@ -168,7 +200,7 @@ each-returns-clause-rows g t c =
     let env = env_of c.args.env.now in
     let bound_to : is_F l.range.kind ≡ true = search rules in
     let here = stood at (bound-of at c.requires.planned) k l c.in-Some.ensures.lookup.3.0 c.in-Some.ensures.lookup.1 in
-    let end = c.in_ok-way.ensures.leads.end in
+    let end = c.in_ok-way.ensures.end in
     let over : c.in_ok-way.way.end ≤ c.loop-i.i = search rules in
     each-all c.args.level c.rows-rows.result.now (family at l.range.over env) c.loop-i.i
     (λ (cells : List Cell). left_at at (k + 1) (bound l.range.id cells env)) c.args.out.now c.loop-i.out (left_at at k env) (omega (arith, end, over))
@@ -240,6 +272,14 @@ subs-loop-i-preserved g t c =
                 is_there w.sub_under-rows.result _ _ _ w.in_ok-push_sub.ensures (w.sub_under-rows.ensures.took kept keeps) (λ s e h. h) in
                 let steps : w.sub_under-rows.new.steps ≡ c.if-not-is_f.steps = search rules in
                 (omega (arith, so.0, now.0, steps), omega (arith, so.1, now.1, steps, more, one));
+            taken = λ kept seeks.
+                let more = others-more rs (asked_takings_at at kept) env i r inside here in
+                let one : cond (is_F r.kind) 0 (asked_takings_at at kept r.over env) ≡ asked_takings_at at kept r.over env = ap (λ (b : Bool). cond b 0 (asked_takings_at at kept r.over env)) free in
+                let so = c.loop-i.invariant.taken kept seeks in
+                let now : Between 0 (asked_takings_at at kept r.over env) c.loop-i.tally.taken w.sub_under-rows.new.tally.taken =
+                is_there w.sub_under-rows.result _ _ _ w.in_ok-push_sub.ensures (w.sub_under-rows.ensures.taken kept seeks) (λ s e h. h) in
+                let put-taken : w.sub_under-rows.new.tally.taken ≡ c.if-not-is_f.tally.taken = search rules in
+                (omega (arith, so.0, now.0, put-taken), omega (arith, so.1, now.1, put-taken, more, one));
             counted = λ start h. search (rules, w.sub_under-rows.ensures.counted start (c.loop-i.invariant.counted start h));
           }
       | subs-else-not-is_f w ↦
@@ -254,6 +294,12 @@ subs-loop-i-preserved g t c =
                 let so = c.loop-i.invariant.took kept keeps in
                 let steps : c.loop-i.steps ≡ c.if-not-is_f.steps = search rules in
                 (omega (arith, so.0, steps), omega (arith, so.1, steps, more, none));
+            taken = λ kept seeks.
+                let more = others-more rs (asked_takings_at at kept) env i r inside here in
+                let none : cond (is_F r.kind) 0 (asked_takings_at at kept r.over env) ≡ 0 = ap (λ (b : Bool). cond b 0 (asked_takings_at at kept r.over env)) bound_to in
+                let so = c.loop-i.invariant.taken kept seeks in
+                let put-taken : c.loop-i.tally.taken ≡ c.if-not-is_f.tally.taken = search rules in
+                (omega (arith, so.0, put-taken), omega (arith, so.1, put-taken, more, none));
             counted = λ start h. search (rules, c.loop-i.invariant.counted start h);
           }
     ]
@@ -355,7 +401,7 @@ each-returns-clause-took g t c = λ kept keeps.
     let whole : ℕ = cost_left at kept k env in
     let bound_to : is_F l.range.kind ≡ true = search rules in
     let here = placed at c.requires.planned k l c.in-Some.ensures.lookup.3.0 c.in-Some.ensures.lookup.1 in
-    let end = c.in_ok-way.ensures.leads.end in
+    let end = c.in_ok-way.ensures.end in
     let over : c.in_ok-way.way.end ≤ c.loop-i.i = search rules in
     let there : at_level c.args.level whole ≡ whole = c.is_no.ensures.there whole ∙ ap (λ (b : Bool). cond b 0 whole) c.if-is_no.false in
     subst (λ (n : ℕ). Between 0 n c.args.steps.now c.loop-i.steps) (sym there)
@@ -469,7 +515,7 @@ evaluated-of_kind-requires g t c κs l =
     let plan = c.in-Some.plan.now in
     let found : slice_get run.plans.now (length below) ≡ Some (Some plan) = some-is (λ (p : Bor Plan). slice_get run.plans.now (length below) ≡ Some (Some p.now)) c.plan_at.result c.in-Some.plan c.in-Some.is c.plan_at.ensures in
     let planned = planned-by _ c.in_ok-loops.loops.items plan c.deref.ensures.value c.deref-in-Some.ensures.value c.deref-in-Some-2.ensures.value c.deref-in-Some-3.ensures.value c.deref-in-Some-4.ensures.value c.deref-in-Some-5.ensures.value
-    (c.in_ok-loops.ensures.ranges ∙ c.as_slice.ensures) c.in_ok-loops.ensures.stand c.in_ok-loops.ensures.kept c.requires.fit
+    (c.in_ok-loops.ensures.ranges ∙ c.as_slice.ensures) c.in_ok-loops.ensures.stand c.in_ok-loops.ensures.opens c.in_ok-loops.ensures.kept c.requires.fit
     (subst (PlanFits run.memo.now n below) found c.requires.plans.0) c.requires.plans.1 c.requires.ready in
     (grind (arith, common_steps), (grind (arith, common_steps), planned))
 
@@ -486,8 +532,8 @@ evaluated-plan_of-requires g t c =
 pub evaluated-of_kind-requires-2 : goal.evaluated-of_kind-requires-2
 evaluated-of_kind-requires-2 g t c κs l =
     let planned = planned-by _ c.in_ok-loops.loops.items c.in_ok-plan.plan c.deref-3.ensures.value c.deref-4.ensures.value c.deref-5.ensures.value c.deref-6.ensures.value c.deref-7.ensures.value c.deref-8.ensures.value
-    (c.in_ok-loops.ensures.ranges ∙ c.as_slice.ensures) c.in_ok-loops.ensures.stand c.in_ok-loops.ensures.kept c.requires.fit
-    c.in_ok-plan.ensures c.requires.plans.1 c.requires.ready in
+    (c.in_ok-loops.ensures.ranges ∙ c.as_slice.ensures) c.in_ok-loops.ensures.stand c.in_ok-loops.ensures.opens c.in_ok-loops.ensures.kept c.requires.fit
+    c.in_ok-plan.ensures.fits c.requires.plans.1 c.requires.ready in
     (grind (arith, common_steps), (grind (arith, common_steps), planned))
 
 pub groups-returns-clause-counted : goal.groups-returns-clause-counted
@@ -629,4 +675,178 @@ groups-rows_under-rows-requires g t c = grind (arith, common_steps)
 
 pub selected-returns-then-all_kept-clause-took : goal.selected-returns-then-all_kept-clause-took
 selected-returns-then-all_kept-clause-took g t c = λ kept keeps.
-    IfOk-weaker c.kept_selected.result _ _ (λ bag h. (omega arith, omega arith)) c.kept_selected.ensures
+    IfOk-weaker c.kept_selected.result _ _ (λ bag h. (omega arith, omega arith)) c.kept_selected.ensures.rows
+
+-- ---- how many rows are taken
+
+pub evaluated-returns-in-Some-clause-taken : goal.evaluated-returns-in-Some-clause-taken
+evaluated-returns-in-Some-clause-taken g t c = λ kept seeks.
+    let run = c.args.run.now in
+    let n = c.args.node.now in
+    let below = c.args.below.now in
+    let plan = c.in-Some.plan.now in
+    let found : slice_get run.plans.now (length below) ≡ Some (Some plan) = some-is (λ (p : Bor Plan). slice_get run.plans.now (length below) ≡ Some (Some p.now)) c.plan_at.result c.in-Some.plan c.in-Some.is c.plan_at.ensures in
+    let planned : PlanSeeks kept n (Some (Some plan)) = subst (PlanSeeks kept n) found seeks.planned.0 in
+    IfOk-weaker c.of_kind.result _ _ (λ bag h. (omega (arith, h.0, c.step.ensures.taken), omega (arith, h.1, c.step.ensures.taken)))
+    (c.of_kind.ensures.taken kept (record {
+      by_keys = seeks.by_keys;
+      keeps = seeks.keeps;
+      ordered = seeks.ordered;
+      planned = seeks.planned.1;
+      here = λ select. subst (λ (ks : _). Seeks kept n ks c.deref-in-Some-3.result.now) (sym c.deref-in-Some-2.ensures.value) (subst (Seeks kept n plan.keyed.items) (sym c.deref-in-Some-3.ensures.value) (planned select));
+    }))
+
+pub evaluated-returns-clause-taken : goal.evaluated-returns-clause-taken
+evaluated-returns-clause-taken g t c = λ kept seeks.
+    let run = c.args.run.now in
+    let n = c.args.node.now in
+    let below = c.args.below.now in
+    let plan = c.in_ok-plan.plan in
+    let opens = subst (All (λ (l : Loop). OpensAs run.memo.now below l.range.over l.under)) (sym c.deref-2.ensures.value) c.in_ok-loops.ensures.opens in
+    IfOk-weaker c.of_kind-2.result _ _ (λ bag h. (omega (arith, h.0, c.step.ensures.taken), omega (arith, h.1, c.step.ensures.taken)))
+    (c.of_kind-2.ensures.taken kept (record {
+      by_keys = seeks.by_keys;
+      keeps = seeks.keeps;
+      ordered = seeks.ordered;
+      planned = seeks.planned.1;
+      here = λ select. subst (λ (ks : _). Seeks kept n ks c.deref-6.result.now) (sym c.deref-5.ensures.value) (subst (Seeks kept n plan.keyed.items) (sym c.deref-6.ensures.value) (c.in_ok-plan.ensures.seeks kept seeks.by_keys seeks.keeps seeks.ordered opens select));
+    }))
+
+pub of_kind-returns-in-Base-clause-taken : goal.of_kind-returns-in-Base-clause-taken
+of_kind-returns-in-Base-clause-taken g t c = λ kept seeks. IfOk-weaker c.copied_rows.result _ _ (λ bag h. (omega arith, omega arith)) c.copied_rows.ensures
+
+pub of_kind-returns-in-Select-clause-taken : goal.of_kind-returns-in-Select-clause-taken
+of_kind-returns-in-Select-clause-taken g t c = λ kept seeks.
+    let at = c.args.at.now in
+    let env = env_of c.args.env.now in
+    let e : takings_at at kept env ≡ taken_by kept Select at.node.now (family at) (asked_takings_at at kept) env = ap (λ (k : BoxKind). taken_by kept k at.node.now (family at) (asked_takings_at at kept) env) c.in-Select.is in
+    IfOk-weaker c.selected.result _ _ (λ bag h. (omega (arith, h.0), omega (arith, h.1, e))) (c.selected.ensures.taken kept seeks c.in-Select.is)
+
+pub of_kind-returns-in-Group-clause-taken : goal.of_kind-returns-in-Group-clause-taken
+of_kind-returns-in-Group-clause-taken g t c = λ kept seeks.
+    let at = c.args.at.now in
+    let env = env_of c.args.env.now in
+    let e : takings_at at kept env ≡ under_each at.node.now.quants (asked_takings_at at kept) env = ap (λ (k : BoxKind). taken_by kept k at.node.now (family at) (asked_takings_at at kept) env) c.in-Group.is in
+    IfOk-weaker c.groups.result _ _ (λ bag h. (omega (arith, h.0), omega (arith, h.1, e))) (c.groups.ensures.taken kept seeks)
+
+pub of_kind-returns-in-SetOp-clause-taken : goal.of_kind-returns-in-SetOp-clause-taken
+of_kind-returns-in-SetOp-clause-taken g t c = λ kept seeks.
+    let at = c.args.at.now in
+    let env = env_of c.args.env.now in
+    let e : takings_at at kept env ≡ under_each at.node.now.quants (asked_takings_at at kept) env = ap (λ (k : BoxKind). taken_by kept k at.node.now (family at) (asked_takings_at at kept) env) c.in-SetOp.is in
+    IfOk-weaker c.put_together.result _ _ (λ bag h. (omega (arith, h.0), omega (arith, h.1, e))) (c.put_together.ensures.taken kept seeks)
+
+pub of_kind-returns-in-OuterJoin-clause-taken : goal.of_kind-returns-in-OuterJoin-clause-taken
+of_kind-returns-in-OuterJoin-clause-taken g t c = λ kept seeks.
+    let at = c.args.at.now in
+    let env = env_of c.args.env.now in
+    let e : takings_at at kept env ≡ under_each at.node.now.quants (asked_takings_at at kept) env = ap (λ (k : BoxKind). taken_by kept k at.node.now (family at) (asked_takings_at at kept) env) c.in-OuterJoin.is in
+    IfOk-weaker c.joined.result _ _ (λ bag h. (omega (arith, h.0), omega (arith, h.1, e))) (c.joined.ensures.taken kept seeks)
+
+pub selected-returns-then-all_kept-clause-taken : goal.selected-returns-then-all_kept-clause-taken
+selected-returns-then-all_kept-clause-taken g t c = λ kept seeks select.
+    IfOk-weaker c.kept_selected.result _ _ (λ bag h. (omega (arith, h.0), omega (arith, h.1))) (c.kept_selected.ensures.took kept seeks select)
+
+pub selected-returns-clause-taken : goal.selected-returns-clause-taken
+selected-returns-clause-taken g t c = λ kept seeks select.
+    let at = c.args.at.now in
+    let env = env_of c.args.env.now in
+    let anew : list_any (λ (l : Loop). is_open l.under) at.loops.now ≡ true = false-not _ (sym c.if-all_kept.false ∙ c.all_kept.ensures.exact) in
+    let order = text-order at c.requires.planned kept seeks select anew in
+    let e : takings_left at kept 0 env ≡ taken_by kept Select at.node.now (family at) (asked_takings_at at kept) env =
+    ap (λ (rs : List OwnedQuant). ways kept at.node.now rs (family at) env + under_rows at.node.now.quants at.node.now.quants (family at) (asked_takings_at at kept) env) order.1 in
+    of_part c.once_added.result c.each-added.result _ _ _ c.once_added.ensures (c.each-added.ensures.taken kept seeks order.0) (λ bag _ h took. (omega (arith, took.0), omega (arith, took.1, e)))
+
+pub groups-returns-clause-taken : goal.groups-returns-clause-taken
+groups-returns-clause-taken g t c = λ kept seeks.
+    let at = c.args.at.now in
+    let l = c.in-Some.l.now in
+    let env = env_of c.args.env.now in
+    let less = one-under at.node.now.quants (asked_takings_at at kept) env l.range (drop 1 at.node.now.quants) (placed at c.requires.planned 0 l c.in-Some.ensures.lookup.3.0 c.in-Some.ensures.lookup.1).0 in
+    of_part c.grouped.result c.rows_under-rows.result _ _ _ c.grouped.ensures (c.rows_under-rows.ensures.taken kept seeks) (λ bag s h took. (omega (arith, took.0), omega (arith, took.1, less)))
+
+pub joined-returns-clause-taken : goal.joined-returns-clause-taken
+joined-returns-clause-taken g t c = λ kept seeks.
+    let at = c.args.at.now in
+    let env = env_of c.args.env.now in
+    let less = two-at at c.requires.planned c.p-item.result c.q-item.result (asked_takings_at at kept) env c.in-len2-up.len_at_least c.p-item.is c.q-item.is in
+    of_parts c.outer_joined.result c.rows_under-xs.result c.rows_under-ys.result _ _ _ _ c.outer_joined.ensures (c.rows_under-xs.ensures.taken kept seeks) (c.rows_under-ys.ensures.taken kept seeks)
+    (λ bag s t h xs ys. (omega (arith, xs.0, ys.0), omega (arith, xs.1, ys.1, less)))
+
+pub put_together-returns-clause-taken : goal.put_together-returns-clause-taken
+put_together-returns-clause-taken g t c = λ kept seeks.
+    let at = c.args.at.now in
+    let env = env_of c.args.env.now in
+    let less = two-at at c.requires.planned c.p-item.result c.q-item.result (asked_takings_at at kept) env c.in-len2-up.len_at_least c.p-item.is c.q-item.is in
+    of_parts c.combined.result c.rows_under-xs.result c.rows_under-ys.result _ _ _ _ c.combined.ensures (c.rows_under-xs.ensures.taken kept seeks) (c.rows_under-ys.ensures.taken kept seeks)
+    (λ bag s t h xs ys. (omega (arith, xs.0, ys.0), omega (arith, xs.1, ys.1, less)))
+
+pub each-returns-then-not-is_f-clause-taken : goal.each-returns-then-not-is_f-clause-taken
+each-returns-then-not-is_f-clause-taken g t c = λ kept seeks sought.
+    let at = c.args.at.now in
+    let l = c.in-Some.l.now in
+    let env = env_of c.args.env.now in
+    let passed : is_F l.range.kind ≡ false = search rules in
+    subst (λ (n : ℕ). OnOk c.each.result (Between 0 (at_level c.args.level n) c.args.tally.now.taken c.each.new.tally.taken))
+    (sym (takings-over at c.requires.planned kept seeks c.args.k l c.in-Some.ensures.lookup.3.0 c.in-Some.ensures.lookup.1 passed env))
+    (c.each.ensures.taken kept seeks sought)
+
+pub each-returns-clause-taken : goal.each-returns-clause-taken
+each-returns-clause-taken g t c = λ kept seeks sought.
+    let at = c.args.at.now in
+    let l = c.in-Some.l.now in
+    let k = c.args.k in
+    let env = env_of c.args.env.now in
+    let whole : ℕ = takings_left at kept k env in
+    let bound_to : is_F l.range.kind ≡ true = search rules in
+    let end = c.in_ok-way.ensures.end in
+    let over : c.in_ok-way.way.end ≤ c.loop-i.i = search rules in
+    let there : at_level c.args.level whole ≡ whole = c.is_no.ensures.there whole ∙ ap (λ (b : Bool). cond b 0 whole) c.if-is_no.false in
+    subst (λ (n : ℕ). Between 0 n c.args.tally.now.taken c.loop-i.tally.taken) (sym there)
+    (all-took (row_takings at kept k l.range env) c.rows-rows.result.now (family at l.range.over env) c.loop-i.i (asked_takings_at at kept l.range.over env) whole
+    c.args.tally.now.taken c.rows_under.new.tally.taken c.loop-i.tally.taken (omega (arith, end, over))
+    (subst (λ (b : Bag). Alike b (family at l.range.over env)) (sym c.rows-rows.ensures) c.in_ok-source.ensures.rows)
+    (takings-bound at c.requires.planned kept seeks k l c.in-Some.ensures.lookup.3.0 c.in-Some.ensures.lookup.1 bound_to env)
+    (c.in_ok-source.ensures.taken kept seeks) (c.loop-i.invariant.taken kept seeks sought))
+
+pub each-returns-in_default-clause-taken : goal.each-returns-in_default-clause-taken
+each-returns-in_default-clause-taken g t c = λ kept seeks sought.
+    let at = c.args.at.now in
+    let env = env_of c.args.env.now in
+    let whole : ℕ = takings_left at kept c.args.k env in
+    let past : length at.loops.now ≤ c.args.k = search rules in
+    let there : at_level c.args.level whole ≡ whole = c.is_no.ensures.there whole ∙ ap (λ (b : Bool). cond b 0 whole) c.if-is_no.false in
+    let under : under_rows (drop c.args.k at.node.now.quants) at.node.now.quants (family at) (asked_takings_at at kept) env ≡ under_others at.node.now.quants (asked_takings_at at kept) env =
+    ap (λ (rs : List OwnedQuant). under_rows rs at.node.now.quants (family at) (asked_takings_at at kept) env) (past-all at c.requires.planned c.args.k past) in
+    on_ok_weaker c.add_head.result (λ h. subst (λ (n : ℕ). Between 0 n c.args.tally.now.taken c.add_head.new.tally.taken) (sym there) (omega (arith, h.0), omega (arith, h.1, under))) (c.add_head.ensures.taken kept seeks)
+
+pub add_head-returns-clause-taken : goal.add_head-returns-clause-taken
+add_head-returns-clause-taken g t c = λ kept seeks.
+    let at = c.args.at.now in
+    on_ok_weaker c.add_given.result
+    (λ h. subst (λ (rs : List OwnedQuant). Between 0 (under_others rs (asked_takings_at at kept) (env_of c.args.env.now)) c.args.tally.now.taken c.subs.new.tally.taken) c.requires.planned.ranged (c.in_ok-subs.ensures.taken kept seeks))
+    c.add_given.ensures
+
+pub rows_under-returns-in-Open-clause-taken : goal.rows_under-returns-in-Open-clause-taken
+rows_under-returns-in-Open-clause-taken g t c = λ kept seeks.
+    let at = c.args.at.now in
+    let anew : IsOpen (tables_of at) at.run.now.memo.now at.below.now c.args.l.now.range.over c.in-Open.node.now c.in-Open.behind.now =
+    subst (λ (u : Under). Stands (tables_of at) at.run.now.memo.now at.below.now c.args.l.now.range.over u) c.in-Open.is c.requires.stands in
+    let e = anew.takes kept seeks.keeps (env_of c.args.env.now) in
+    of_part c.made.result c.evaluated.result _ _ _ c.made.ensures
+    (c.evaluated.ensures.taken kept (record { by_keys = seeks.by_keys; keeps = (anew.keeps kept seeks.keeps).0; ordered = anew.ordered seeks.ordered.2; planned = anew.seeks kept at.run.now.plans.now seeks.planned }))
+    (λ s bag h took. (omega (arith, took.0), omega (arith, took.1, e)))
+
+pub sub_under-returns-then-is_open-clause-taken : goal.sub_under-returns-then-is_open-clause-taken
+sub_under-returns-then-is_open-clause-taken g t c = λ kept seeks.
+    of_part c.unindexed.result c.rows_under.result _ _ _ c.unindexed.ensures (c.rows_under.ensures.taken kept seeks) (λ s source e h. h)
+
+pub sub_under-returns-clause-taken : goal.sub_under-returns-clause-taken
+sub_under-returns-clause-taken g t c = λ kept seeks. (omega arith, omega arith)
+
+pub subs-returns-clause-taken : goal.subs-returns-clause-taken
+subs-returns-clause-taken g t c = λ kept seeks.
+    let at = c.args.at.now in
+    let rs = ranges at.loops.now in
+    subst (λ (xs : List OwnedQuant). Between 0 (under_others xs (asked_takings_at at kept) (env_of c.args.env.now)) c.args.tally.now.taken c.loop-i.tally.taken)
+    (take_all c.loop-i.i rs (range-past at.loops.now c.loop-i.i c.loop-i-test.false)) (c.loop-i.invariant.taken kept seeks)

@@ -4,10 +4,11 @@ use Rattle.qgm_meaning.specs.Values.{bound}
 use Rattle.sql_value.specs.declared.cell.Cell.{Cell}
 use Rattle.box_exec.specs.Bound.{env_of}
 use Rattle.box_exec.specs.Counted.{Counted}
-use Rattle.box_exec.specs.Plans.{KeepsAt, asked_at, cost_left, family, left_at, ranges}
+use Rattle.box_exec.specs.Plans.{KeepsAt, SeeksAt, SoughtAt, asked_at, asked_takings_at, cost_left, family, left_at, ranges}
 use Rattle.box_exec.specs.Costs.{Between}
 use Rattle.qgm_meaning.specs.Plain.{under_others}
 use Rattle.box_exec.proofs.Evaluations.{each_row}
+use Rattle.box_exec.proofs.Rows.{row_takings}
 use Rattle.row_index.specs.Ways.{StandsFrom, place}
 use Rattle.box_exec.specs.Ready.{SubsOf, isnt_F, weight, weight_under}
 use Rattle.box_exec.proofs.boxes.+rows.Given as goal
@@ -52,6 +53,7 @@ abbrev pub invariant-each-loop-i : goal.invariant-each-loop-i
 invariant-each-loop-i g l = record {
   rows : Alike l.out (l.initial.out ++ keep l.level (bind (take l.i l.rows) (λ (cells : List Cell). left_at l.at (l.k + 1) (bound l.l.range.id cells (env_of l.env)))));
   took : (kept : ℕ → Bool) → KeepsAt l.at kept → Between 0 (each_row (λ (cells : List Cell). cost_left l.at kept (l.k + 1) (bound l.l.range.id cells (env_of l.env))) (take l.i l.rows)) l.initial.steps l.steps;
+  taken : (kept : ℕ → Bool) → SeeksAt l.at kept → SoughtAt l.at → Between 0 (each_row (row_takings l.at kept l.k l.l.range (env_of l.env)) (take l.i l.rows)) l.initial.tally.taken l.tally.taken;
   stands : StandsFrom l.way (place l.c) l.c;
   at : l.i ≡ place l.c;
   counted : (start : ℕ) → Counted start l.initial.steps l.initial.tally.count → Counted start l.steps l.tally.count;
@@ -61,5 +63,6 @@ abbrev pub invariant-subs-loop-i : goal.invariant-subs-loop-i
 invariant-subs-loop-i g l = record {
   rows : SubsOf (family l.at) (env_of l.env) (filter isnt_F (take l.i (ranges l.at.loops.now))) l.subs.items;
   took : (kept : ℕ → Bool) → KeepsAt l.at kept → Between 0 (under_others (take l.i (ranges l.at.loops.now)) (asked_at l.at kept) (env_of l.env)) l.initial.steps l.steps;
+  taken : (kept : ℕ → Bool) → SeeksAt l.at kept → Between 0 (under_others (take l.i (ranges l.at.loops.now)) (asked_takings_at l.at kept) (env_of l.env)) l.initial.tally.taken l.tally.taken;
   counted : (start : ℕ) → Counted start l.initial.steps l.initial.tally.count → Counted start l.steps l.tally.count;
 }

@@ -1,4 +1,4 @@
-use Rattle.std.proofs.Common.{ℕ, ◌≡◌, ◌+◌, ◌++◌, ◌∙◌, List, All, ap, drop, false, filter, map, not, refl, rules, subst, sym, true, arith}
+use Rattle.std.proofs.Common.{ℕ, ◌≡◌, ◌+◌, ◌++◌, ◌∙◌, List, All, ap, drop, false, filter, map, not, rules, subst, sym, true}
 use Rattle.list_laws.specs.Lists.{In}
 use Rattle.qgm_terms.specs.Terms.{Cond}
 use Rattle.qgm_terms.specs.Shown.{cond, conds}
@@ -8,7 +8,6 @@ use Rattle.box_exec.specs.declared.early.Early.{Early}
 use Rattle.box_exec.proofs.Asking.{early-more, named-more}
 use Rattle.box_exec.proofs.Rejections.{all-more, in-map-at}
 use Rattle.box_exec.proofs.early.early_conds.Goals.{then-not-names_any+in_ok-push, else-not-names_any}
-use Rattle.std.proofs.lemmas.Grind.{common_steps}
 use Rattle.box_exec.proofs.early.early_conds.Goals as goal
 
 pub loop-c-preserved : goal.loop-c-preserved

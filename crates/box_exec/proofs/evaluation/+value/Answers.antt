@@ -1,5 +1,7 @@
 use Rattle.std.proofs.Common.{ℕ, ◌≡◌, ◌<◌, ◌≤◌, ◌+◌, ◌∙◌, List, ap, arith, drop, length, rules, subst, sym}
 use Rattle.std.proofs.lemmas.Grind.{common_steps}
+use Rattle.std.proofs.lemmas.Option.{get_or_from_slice_get}
+use Rattle.row_bag.specs.RowRefs.{lent}
 use Rattle.qgm_terms.specs.Shown.{cond, conds, links, term}
 use Rattle.box_exec.specs.Bound.{env_of}
 use Rattle.box_exec.specs.Sources.{held_by}
@@ -11,7 +13,7 @@ use Rattle.qgm_meaning.specs.Values.{Bag, bound, truth}
 use Rattle.box_exec.specs.Idle.{LeadsIdle, joined, quantified}
 use Rattle.box_exec.proofs.Units.{unit-joined}
 use Rattle.box_exec.proofs.Steps.{all_more, any_more, chain_more, truth_anded, truth_ored, value_linked}
-use Rattle.box_exec.proofs.Quantified.{idle-ended, idle-stepped, quantified-done, quantified-more}
+use Rattle.box_exec.proofs.Quantified.{idle-ended, idle-stepped, quantified-done, quantified-more, quantified-none}
 use Rattle.qgm_terms.proofs.Lists as listed
 use Rattle.box_exec.proofs.evaluation.+value.Goals as goal
 
@@ -72,9 +74,6 @@ value-returns-in-Neg t c = grind (arith, common_steps)
 pub first_true-returns-in-Overflow : goal.first_true-returns-in-Overflow
 first_true-returns-in-Overflow t c = grind (arith, common_steps)
 
-pub value-returns-in-Scalar : goal.value-returns-in-Scalar
-value-returns-in-Scalar t c = grind (arith, common_steps)
-
 pub hold-returns-in-Not : goal.hold-returns-in-Not
 hold-returns-in-Not t c = grind (arith, common_steps)
 
@@ -99,6 +98,11 @@ hold-returns-in-IsNull t c = grind (arith, common_steps)
 pub first_true-returns-in-Division : goal.first_true-returns-in-Division
 first_true-returns-in-Division t c = grind (arith, common_steps)
 
+pub quantified-returns-in_default : goal.quantified-returns-in_default
+quantified-returns-in_default t c =
+    let test = λ (cells : List Cell). truth (held_by c.args.subs.now) (cond c.args.p.now) (bound c.args.q cells (env_of c.args.env.now)) in
+    c.decided.ensures ∙ sym (quantified-none c.args.holds test) ∙ ap (quantified c.args.holds test) (sym (c.rows_of.ensures.none c.in_default.is))
+
 pub quantified-loop-i-init : goal.quantified-loop-i-init
 quantified-loop-i-init t c =
     let holds = c.args.holds in
@@ -106,10 +110,10 @@ quantified-loop-i-init t c =
     let subs = held_by c.args.subs.now in
     let p = cond c.args.p.now in
     let env = env_of c.args.env.now in
-    let rows = c.rows_of-rows.result.now in
+    let rows = c.in-Some.rows.now in
     let way = c.in_ok-way.way in
     let cursor = c.first_of-c.result in
-    let leads : LeadsIdle holds q p rows env way = subst (λ (rs : Bag). LeadsIdle holds q p rs env way) (sym c.rows_of-rows.ensures) c.in_ok-way.ensures in
+    let leads : LeadsIdle holds q p rows env way = subst (λ (rs : Bag). LeadsIdle holds q p rs env way) (sym c.in-Some.ensures.some) c.in_ok-way.ensures in
     let whole = quantified holds (λ cells. truth subs p (bound q cells env)) in
     record {
       whole = ap (λ (x : Truth). joined holds x (whole (drop c.place-i.result rows))) c.decided-truth.ensures
@@ -127,20 +131,20 @@ quantified-loop-i-preserved t c =
     let subs = held_by c.args.subs.now in
     let p = cond c.args.p.now in
     let env = env_of c.args.env.now in
-    let rows = c.rows_of-rows.result.now in
+    let rows = c.in-Some.rows.now in
     let way = c.in_ok-way.way in
     let i = c.loop-i.i in
-    let r = c.index-rows-i.result in
+    let r = lent c.at.result in
     let new = c.joined-truth.result in
     let cursor = c.next_of-c.result in
-    let leads : LeadsIdle holds q p rows env way = subst (λ (rs : Bag). LeadsIdle holds q p rs env way) (sym c.rows_of-rows.ensures) c.in_ok-way.ensures in
+    let leads : LeadsIdle holds q p rows env way = subst (λ (rs : Bag). LeadsIdle holds q p rs env way) (sym c.in-Some.ensures.some) c.in_ok-way.ensures in
     let test = λ (cells : List Cell). truth subs p (bound q cells env) in
     let whole = quantified holds test in
     let end = (leads subs).end in
     let inside : i < length rows = search rules in
     let next : i + 1 ≤ way.end = omega (arith, end, inside) in
     let stands : StandsFrom way (i + 1) cursor = subst (λ (n : ℕ). StandsFrom way (n + 1) cursor) (sym c.loop-i.invariant.at) c.next_of-c.ensures in
-    let more = quantified-more holds test rows i r c.loop-i.truth c.in_ok-counted.counted new (whole rows) inside (sym c.index-rows-i.is) c.in_ok-counted.ensures c.joined-truth.ensures c.loop-i.invariant.whole in
+    let more = quantified-more holds test rows i r c.loop-i.truth c.in_ok-counted.counted new (whole rows) inside (get_or_from_slice_get rows i r r c.at.ensures) c.in_ok-counted.ensures c.joined-truth.ensures c.loop-i.invariant.whole in
     record {
       whole = ap (λ (n : ℕ). joined holds new (whole (drop n rows))) c.place-i-in-loop-i.ensures ∙ ap (joined holds new) (sym (idle-stepped holds q subs p rows env way leads (i + 1) cursor next stands)) ∙ more;
       stands = seen-again way (i + 1) cursor (leads subs).spans next stands;
@@ -151,8 +155,8 @@ pub quantified-loop-i-smaller : goal.quantified-loop-i-smaller
 quantified-loop-i-smaller t c =
     let way = c.in_ok-way.way in
     let led = c.in_ok-way.ensures (held_by c.args.subs.now) in
-    let rows : length c.rows_of-rows.result.now ≡ way.end = ap (λ (rs : Bag). length rs) c.rows_of-rows.ensures ∙ sym led.end in
-    let inside : c.loop-i.i < length c.rows_of-rows.result.now = search rules in
+    let rows : length c.in-Some.rows.now ≡ way.end = ap (λ (rs : Bag). length rs) c.in-Some.ensures.some ∙ sym led.end in
+    let inside : c.loop-i.i < length c.in-Some.rows.now = search rules in
     let at = c.loop-i.invariant.at in
     let to = c.place-i-in-loop-i.ensures in
     let low = seen-low way (place c.loop-i.c + 1) c.next_of-c.result led.spans (omega (arith, rows, inside, at)) c.next_of-c.ensures in
@@ -161,8 +165,8 @@ quantified-loop-i-smaller t c =
 pub quantified-next_of-c-requires : goal.quantified-next_of-c-requires
 quantified-next_of-c-requires t c =
     let led = c.in_ok-way.ensures (held_by c.args.subs.now) in
-    let end : length c.rows_of-rows.result.now ≡ c.in_ok-way.way.end = ap (λ (rs : Bag). length rs) c.rows_of-rows.ensures ∙ sym led.end in
-    let inside : c.loop-i.i < length c.rows_of-rows.result.now = search rules in
+    let end : length c.in-Some.rows.now ≡ c.in_ok-way.way.end = ap (λ (rs : Bag). length rs) c.in-Some.ensures.some ∙ sym led.end in
+    let inside : c.loop-i.i < length c.in-Some.rows.now = search rules in
     let at = c.loop-i.invariant.at in
     record {
       spans = led.spans;
@@ -173,7 +177,7 @@ quantified-next_of-c-requires t c =
 pub quantified-returns-then-is_wholly : goal.quantified-returns-then-is_wholly
 quantified-returns-then-is_wholly t c =
     quantified-done c.args.holds c.loop-i.truth _ _ (c.is_wholly.ensures c.if-is_wholly.true)
-    (subst (λ (rs : Bag). joined c.args.holds c.loop-i.truth (quantified c.args.holds (λ cells. truth (held_by c.args.subs.now) (cond c.args.p.now) (bound c.args.q cells (env_of c.args.env.now))) (drop c.loop-i.i c.rows_of-rows.result.now)) ≡ quantified c.args.holds (λ cells. truth (held_by c.args.subs.now) (cond c.args.p.now) (bound c.args.q cells (env_of c.args.env.now))) rs) c.rows_of-rows.ensures c.loop-i.invariant.whole)
+    (subst (λ (rs : Bag). joined c.args.holds c.loop-i.truth (quantified c.args.holds (λ cells. truth (held_by c.args.subs.now) (cond c.args.p.now) (bound c.args.q cells (env_of c.args.env.now))) (drop c.loop-i.i c.in-Some.rows.now)) ≡ quantified c.args.holds (λ cells. truth (held_by c.args.subs.now) (cond c.args.p.now) (bound c.args.q cells (env_of c.args.env.now))) rs) c.in-Some.ensures.some c.loop-i.invariant.whole)
 
 pub quantified-returns : goal.quantified-returns
 quantified-returns t c =
@@ -182,10 +186,10 @@ quantified-returns t c =
     let subs = held_by c.args.subs.now in
     let p = cond c.args.p.now in
     let env = env_of c.args.env.now in
-    let rows = c.rows_of-rows.result.now in
+    let rows = c.in-Some.rows.now in
     let way = c.in_ok-way.way in
-    let leads : LeadsIdle holds q p rows env way = subst (λ (rs : Bag). LeadsIdle holds q p rs env way) (sym c.rows_of-rows.ensures) c.in_ok-way.ensures in
+    let leads : LeadsIdle holds q p rows env way = subst (λ (rs : Bag). LeadsIdle holds q p rs env way) (sym c.in-Some.ensures.some) c.in_ok-way.ensures in
     let whole = quantified holds (λ cells. truth subs p (bound q cells env)) in
     let end = (leads subs).end in
     let past : length rows ≤ c.loop-i.i = search rules in
-    idle-ended holds q subs p rows env way leads c.loop-i.i c.loop-i.truth (whole rows) (omega (arith, end, past)) c.loop-i.invariant.whole ∙ ap whole c.rows_of-rows.ensures
+    idle-ended holds q subs p rows env way leads c.loop-i.i c.loop-i.truth (whole rows) (omega (arith, end, past)) c.loop-i.invariant.whole ∙ ap whole c.in-Some.ensures.some

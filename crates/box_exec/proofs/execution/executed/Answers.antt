@@ -1,7 +1,9 @@
 use Rattle.std.proofs.Common.{sym, ◌∙◌, ◌∷◌, arith, subst}
 use Rattle.box_exec.specs.Lasting.{AllPlanned}
-use Rattle.box_exec.proofs.Roots.{root-behind, root-fit, root-none, root-rows, root-there, root-took}
+use Rattle.box_exec.proofs.Roots.{root-behind, root-fit, root-none, root-ordered, root-rows, root-takes, root-there, root-took}
+use Rattle.box_exec.specs.Takings.{AllSeek}
 use Rattle.box_exec.proofs.Totals.{took-exactly, took-within}
+use Rattle.box_exec.proofs.Ways.{TookRows, taken-within}
 use Rattle.std.proofs.lemmas.Grind.{common_steps}
 use Rattle.box_exec.proofs.execution.executed.Goals as goal
 
@@ -88,3 +90,23 @@ root_rows-requires-clause-ready g c = grind (arith, common_steps)
 
 pub returns-in_err-rows-clause-rows : goal.returns-in_err-rows-clause-rows
 returns-in_err-rows-clause-rows g c = grind (arith, common_steps)
+
+pub returns-clause-at_most_ways : goal.returns-clause-at_most_ways
+returns-clause-at_most_ways g c = λ indexed w.
+    let tables = c.args.tables.now in
+    let graph = c.args.graph.now in
+    let n = c.index-nodes-i.result in
+    let below = c.behind-below.result.now in
+    let took : TookRows tables graph 0 c.root_rows.new.tally.taken = λ has ordered kept how.
+    let placed = sym c.place_of.ensures ∙ c.in-Some.is in
+    let found = root-takes graph.boxes c.nodes-nodes.result.now graph.root c.root-root.result c.nodes-nodes.ensures c.root-root.ensures tables c.in-Some.i n below c.in_ok-marks.marks kept placed c.index-nodes-i.is c.behind-below.ensures c.in_ok-marks.ensures how in
+    let sorted = root-ordered graph.boxes c.nodes-nodes.result.now graph.root c.root-root.result c.nodes-nodes.ensures c.root-root.ensures c.in-Some.i n below placed c.index-nodes-i.is c.behind-below.ensures ordered in
+    found.1 0 c.memo_of.new.tally.taken c.root_rows.new.tally.taken (c.in_ok-memo.ensures.taken kept found.0 indexed sorted.2)
+    (c.in_ok-rows.ensures.taken kept (record {
+      by_keys = indexed;
+      keeps = c.in_ok-memo.ensures.keeps kept found.0;
+      ordered = sorted;
+      planned = subst (λ (ps : _). AllSeek kept ps (n ∷ below)) (sym c.deref.ensures.value) (c.in_ok-memo.ensures.seeks kept found.0 indexed sorted.2 n);
+    })) in
+    let most = taken-within tables graph w 0 c.root_rows.new.tally.taken took in
+    omega (arith, most)

@@ -35,3 +35,12 @@ returns-clause-counted g c = grind (arith, common_steps)
 
 pub returns-in_default-clause-counted : goal.returns-in_default-clause-counted
 returns-in_default-clause-counted g c = grind (arith, common_steps)
+
+pub returns-in_default-clause-taken : goal.returns-in_default-clause-taken
+returns-in_default-clause-taken g c = λ kept seeks.
+    c.evaluated.ensures.taken kept (record {
+      by_keys = seeks.by_keys;
+      keeps = subst (λ (m : _). Keeps m kept c.args.root.now.below.now) (sym c.deref-in_default.ensures.value) seeks.keeps;
+      ordered = seeks.ordered;
+      planned = seeks.planned;
+    })

@@ -10,5 +10,5 @@ pub new-requires : goal.new-requires
 new-requires c =
     let at = c.args.at.now in
     let x = c.in-Some.index.now in
-    subst (λ (rs : Bag). IsIdleIndex rs x) (sym c.kept_rows.ensures)
+    subst (λ (rs : Bag). IsIdleIndex rs x) (sym c.kept_rows-rows.ensures)
     (c.requires x (some-is (λ (x : Bor IdleIndex). slice_get at.idle.now c.args.i ≡ Some (Some x.now)) c.index_at.result c.in-Some.index c.in-Some.is c.index_at.ensures))

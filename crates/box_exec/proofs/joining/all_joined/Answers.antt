@@ -1,4 +1,3 @@
-use Rattle.std.proofs.lemmas.Option.{IfSome_then}
 use Rattle.box_exec.specs.Lookup.{Hashes}
 use Rattle.box_exec.specs.Outer.{rejects_on}
 use Rattle.box_exec.proofs.Lookups.{some-is}

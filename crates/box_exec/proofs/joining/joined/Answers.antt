@@ -1,9 +1,6 @@
-use Rattle.std.proofs.Common.{sym, ◌∙◌, ap}
+use Rattle.std.proofs.Common.{sym, ◌∙◌}
 use Rattle.std.proofs.lemmas.Result.{IfOk-weaker}
-use Rattle.std.specs.List.{list_any}
 use Rattle.row_bag.proofs.Agreement.{alike-same, alike-trans}
-use Rattle.row_bag.specs.Verdict.{is_there}
-use Rattle.qgm_meaning.specs.Values.{Bag}
 use Rattle.box_exec.specs.Bound.{env_of}
 use Rattle.box_exec.specs.Outer.{null_row, partner_rows}
 use Rattle.box_exec.proofs.Loops.{none-there, some-there}
@@ -13,7 +10,7 @@ pub returns-then-any_there : goal.returns-then-any_there
 returns-then-any_there c =
     let join = c.args.join.now in
     some-there c.in_ok-made.made (partner_rows join.node.now join.left join.right c.args.left.now c.args.right.now.rows.now (env_of c.args.env.now)) (null_row join.node.now join.left join.right c.args.left.now (env_of c.args.env.now))
-    c.in_ok-made.ensures (sym (c.any_there.ensures ∙ ap (λ (b : Bag). list_any is_there b) c.rows.ensures) ∙ c.if-any_there.true)
+    c.in_ok-made.ensures (sym c.any_there.ensures ∙ c.if-any_there.true)
 
 pub returns : goal.returns
 returns c =
@@ -21,5 +18,5 @@ returns c =
     let rows = partner_rows join.node.now join.left join.right c.args.left.now c.args.right.now.rows.now (env_of c.args.env.now) in
     let others = null_row join.node.now join.left join.right c.args.left.now (env_of c.args.env.now) in
     IfOk-weaker c.with_nulls.result _ _
-    (λ made h. alike-trans (alike-same h) (none-there c.in_ok-made.made rows others c.in_ok-made.ensures (sym (c.any_there.ensures ∙ ap (λ (b : Bag). list_any is_there b) c.rows.ensures) ∙ c.if-any_there.false)))
+    (λ made h. alike-trans (alike-same h) (none-there c.in_ok-made.made rows others c.in_ok-made.ensures (sym c.any_there.ensures ∙ c.if-any_there.false)))
     c.with_nulls.ensures

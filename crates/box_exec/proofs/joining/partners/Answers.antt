@@ -1,6 +1,8 @@
-use Rattle.std.proofs.Common.{ℕ, ◌≤◌, ◌<◌, ◌+◌, List, ap, arith, length, rules, subst, sym, take}
+use Rattle.std.proofs.Common.{ℕ, ◌≤◌, ◌<◌, ◌+◌, List, arith, length, refl, rules, subst, sym, take}
 use Rattle.row_bag.specs.Bags.{Alike, bind}
+use Rattle.row_bag.specs.RowRefs.{lent}
 use Rattle.row_bag.proofs.Agreement.{alike-same}
+use Rattle.row_bag.proofs.Places.{read-at}
 use Rattle.sql_value.specs.declared.cell.Cell.{Cell}
 use Rattle.qgm_meaning.specs.Meaning.{given, nothing}
 use Rattle.qgm_meaning.specs.Values.{Bag, bound}
@@ -34,7 +36,7 @@ loop-i-preserved c =
     let outer = bound join.left c.args.left.now (env_of c.args.env.now) in
     let way = c.in_ok-way.way in
     let i = c.loop-i.i in
-    let y = c.index-rows-i.result in
+    let y = lent c.at-y.result in
     let new = c.add_given.new.out in
     let cursor = c.next_of-c.result in
     let leads = c.in_ok-way.ensures in
@@ -47,7 +49,7 @@ loop-i-preserved c =
     record {
       rows = subst (λ (n : ℕ). Alike new (bind (take n ys) f)) (sym c.place-i-in-loop-i.ensures)
           (partners-stepped join.node.now join.right ys outer way leads new (i + 1) cursor next stands
-          (bind-more ys i y f c.loop-i.made new (f c.as_slice.result.now) inside c.index-rows-i.is c.loop-i.invariant.rows (alike-same (ap f c.as_slice.ensures)) c.in_ok-add_given.ensures));
+          (bind-more ys i y f c.loop-i.made new (f y.cells) inside (read-at ys i y c.at-y.ensures) c.loop-i.invariant.rows (alike-same refl) c.in_ok-add_given.ensures));
       stands = seen-again way (i + 1) cursor leads.spans next stands;
       at = c.place-i-in-loop-i.ensures;
     }

@@ -1,4 +1,4 @@
-use Rattle.std.proofs.Common.{◌≡◌, ◌∷◌, [], List, refl, sym, rules, arith}
+use Rattle.std.proofs.Common.{◌≡◌, ◌∷◌, [], List, refl, sym, arith}
 use Rattle.std.proofs.lemmas.Grind.{common_steps}
 use Rattle.qgm_terms.proofs.Lists as listed
 use Rattle.qgm_terms.specs.Shown.{cond, conds}

@@ -4,8 +4,8 @@ use Rattle.box_exec.specs.Equalities.{is_nowhere}
 use Rattle.box_exec.proofs.Lookups.{in-at}
 use Rattle.box_exec.proofs.lookup.aim_of.Goals as goal
 
-pub returns-then-is_nowhere-clause-aims : goal.returns-then-is_nowhere-clause-aims
-returns-then-is_nowhere-clause-aims c =
+pub returns-then-is_nowhere : goal.returns-then-is_nowhere
+returns-then-is_nowhere c =
     let key = c.key-item.result in (
       key,
       (

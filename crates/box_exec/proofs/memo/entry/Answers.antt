@@ -36,3 +36,9 @@ returns-in_ok-rows-in-Select-clause-counted g c = grind (arith, common_steps)
 
 pub returns-in-Some-clause-counted : goal.returns-in-Some-clause-counted
 returns-in-Some-clause-counted g c = grind (arith, common_steps)
+
+pub returns-in-Base-clause-taken : goal.returns-in-Base-clause-taken
+returns-in-Base-clause-taken g c = λ kept seeks. (omega (arith, c.step.ensures.taken), omega (arith, c.step.ensures.taken))
+
+pub returns-in-Some-clause-taken : goal.returns-in-Some-clause-taken
+returns-in-Some-clause-taken g c = λ kept seeks. (omega (arith, c.step-in-Some.ensures.taken), omega (arith, c.step-in-Some.ensures.taken))

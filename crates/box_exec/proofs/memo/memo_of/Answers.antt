@@ -10,6 +10,10 @@ use Rattle.box_exec.specs.Kept.{KeptAs, is_nil}
 use Rattle.box_exec.proofs.Entries.{beyonds-more, fit-here, keeps-more, kept-here, kept-took, long-more, map-push, ready-more}
 use Rattle.box_exec.proofs.Lasting.{plans-first, plans-more}
 use Rattle.box_exec.specs.Lasting.{AllPlanned, PlanFits}
+use Rattle.box_exec.specs.Taken.{taken_by}
+use Rattle.box_exec.specs.Takings.{AllSeek, asked_takings, kept_takings}
+use Rattle.box_exec.proofs.Planned.{kept-taken, ordered-here, seek-first, seek-more}
+use Rattle.qgm_core.specs.Boxes.{Ordered}
 use Rattle.box_exec.proofs.Names.{looks-nowhere}
 use Rattle.std.proofs.lemmas.Grind.{common_steps}
 use Rattle.box_exec.proofs.memo.memo_of.Goals as goal
@@ -66,7 +70,7 @@ boxes-preserved g c =
     subst (λ (m : _). Keeps m kept c.behind-below.result.now) (sym c.deref-in-boxes-3.ensures.value) (subst (Keeps c.boxes.memo.items kept) (sym below) (c.boxes.invariant.keeps kept how)) in
     let fits : PlanFits c.boxes.memo.items n (drop j ns) (Some c.in_ok-plan.plan) =
     subst (λ (m : _). PlanFits m n (drop j ns) (Some c.in_ok-plan.plan)) c.deref-in-boxes-4.ensures.value
-    (subst (λ (ms : List Node). PlanFits c.deref-in-boxes-4.result.now n ms (Some c.in_ok-plan.plan)) below c.in_ok-plan.ensures) in
+    (subst (λ (ms : List Node). PlanFits c.deref-in-boxes-4.result.now n ms (Some c.in_ok-plan.plan)) below c.in_ok-plan.ensures.fits) in
     let put-plan : c.boxes.plans.items ++ c.in_ok-plan.plan ∷ [] ≡ c.push-in-boxes-2.new.self.items = search rules in
     let named : c.boxes.named.items ++ c.in_ok-names.names ∷ [] ≡ c.push.new.self.items = search rules in
     record {
@@ -84,6 +88,18 @@ boxes-preserved g c =
       took = λ kept how. kept-took c.args.tables.now kept ns i j n e l c.index-nodes-i.is c.is_kept-keep.result (flag kept how) c.args.steps.now c.boxes.steps c.entry_if.new.steps (c.boxes.invariant.took kept how)
           (subst (λ (ms : List Node). Between (cond c.is_kept-keep.result 1 0) (cond c.is_kept-keep.result (counted_by n.parts.kind n (bag_in c.args.tables.now ms) (asked c.args.tables.now kept ms) []) 0) c.boxes.steps c.entry_if.new.steps) below
           (c.in_ok-rows.ensures.took kept (memo-keeps kept how)));
+      seeks = λ kept how indexed ordered. subst (λ (ps : _). AllSeek kept ps (drop i ns)) put-plan
+          (seek-more kept c.boxes.plans.items c.in_ok-plan.plan ns i j n e l c.index-nodes-i.is c.boxes.invariant.many
+          (c.in_ok-plan.ensures.seeks kept indexed (subst (λ (m : _). Keeps m kept c.behind-below.result.now) (sym c.deref-in-boxes-4.ensures.value) (subst (Keeps c.boxes.memo.items kept) (sym below) (c.boxes.invariant.keeps kept how))) (subst (λ (ms : List Node). Ordered (n ∷ ms)) (sym below) (ordered-here ns i j n e l c.index-nodes-i.is ordered)))
+          (c.boxes.invariant.seeks kept how indexed ordered));
+      taken = λ kept how indexed ordered. kept-taken c.args.tables.now kept ns i j n e l c.index-nodes-i.is c.is_kept-keep.result (flag kept how) c.args.tally.now.taken c.boxes.tally.taken c.entry_if.new.tally.taken (c.boxes.invariant.taken kept how indexed ordered)
+          (subst (λ (ms : List Node). Between 0 (cond c.is_kept-keep.result (taken_by kept n.parts.kind n (bag_in c.args.tables.now ms) (asked_takings c.args.tables.now kept ms) []) 0) c.boxes.tally.taken c.entry_if.new.tally.taken) below
+          (c.in_ok-rows.ensures.taken kept (record {
+            by_keys = indexed;
+            keeps = memo-keeps kept how;
+            ordered = subst (λ (ms : List Node). Ordered (n ∷ ms)) (sym below) (ordered-here ns i j n e l c.index-nodes-i.is ordered);
+            planned = subst (λ (ps : _). AllSeek kept ps (n ∷ c.behind-below.result.now)) (sym c.deref.ensures.value) (subst (λ (ms : List Node). AllSeek kept c.boxes.plans.items (n ∷ ms)) (sym below) (seek-first kept c.boxes.plans.items n (drop j ns) c.boxes.invariant.many (c.boxes.invariant.seeks kept how indexed ordered)));
+          })));
       counted = λ start h. c.in_ok-rows.ensures.counted start (c.boxes.invariant.counted start h);
     }
 
@@ -112,3 +128,14 @@ returns-in_err-names-clause-counted g c = grind (arith, common_steps)
 
 pub returns-clause-counted : goal.returns-clause-counted
 returns-clause-counted g c = grind (arith, common_steps)
+
+pub returns-clause-seeks : goal.returns-clause-seeks
+returns-clause-seeks g c = λ kept how indexed ordered n.
+    let done : c.boxes.i ≡ 0 = omega (arith, c.boxes-test.false) in
+    seek-first kept c.boxes.plans.items n c.args.nodes.now (subst (λ (k : ℕ). length c.boxes.plans.items ≡ length (drop k c.args.nodes.now)) done c.boxes.invariant.many)
+    (subst (λ (k : ℕ). AllSeek kept c.boxes.plans.items (drop k c.args.nodes.now)) done (c.boxes.invariant.seeks kept how indexed ordered))
+
+pub returns-clause-taken : goal.returns-clause-taken
+returns-clause-taken g c = λ kept how indexed ordered.
+    let done : c.boxes.i ≡ 0 = omega (arith, c.boxes-test.false) in
+    subst (λ (k : ℕ). Between 0 (kept_takings c.args.tables.now kept (drop k c.args.nodes.now)) c.args.tally.now.taken c.boxes.tally.taken) done (c.boxes.invariant.taken kept how indexed ordered)

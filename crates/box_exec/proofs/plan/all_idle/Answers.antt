@@ -1,8 +1,3 @@
-use Rattle.std.proofs.Common.{subst, sym}
-use Rattle.std.specs.Prelude.{IfSome}
-use Rattle.box_exec.specs.Hashed.{rows_kept}
-use Rattle.box_exec.specs.Indexed.{IsIdleIndex}
-use Rattle.box_exec.specs.declared.under.Loop.{Loop}
 use Rattle.box_exec.proofs.Hashing.{idle-more, one-longer}
 use Rattle.box_exec.proofs.plan.all_idle.Goals as goal
 

@@ -2,17 +2,15 @@ use Rattle.std.proofs.lemmas.Result.{IfOk-weaker}
 use Rattle.row_bag.specs.Sets.{same_cells}
 use Rattle.row_bag.proofs.Counts.{alike-from_agree}
 use Rattle.row_bag.proofs.TupleBags.{same_cells-decides}
-use Rattle.box_exec.proofs.combining.of_sources.Goals as goal
+use Rattle.box_exec.proofs.combining.of_operands.Goals as goal
 
 pub returns-in-UnionAll : goal.returns-in-UnionAll
 returns-in-UnionAll c =
-    let agree = rw (c.operand.ensures, c.operand-in-UnionAll.ensures) at c.union.ensures in
-    rw (c.in-UnionAll.is) (IfOk-weaker c.union.result _ _ (λ bag h. alike-from_agree same_cells same_cells-decides h) agree)
+    rw (c.in-UnionAll.is) (IfOk-weaker c.union.result _ _ (λ bag h. alike-from_agree same_cells same_cells-decides h) c.union.ensures)
 
 pub returns-in-Union : goal.returns-in-Union
 returns-in-Union c =
-    let agree = rw (c.operand-in-Union.ensures, c.operand-in-Union-2.ensures) at c.union-in-Union.ensures in
-    rw (c.in-Union.is) (IfOk-weaker c.union-in-Union.result _ _ (λ bag h. alike-from_agree same_cells same_cells-decides h) agree)
+    rw (c.in-Union.is) (IfOk-weaker c.union-in-Union.result _ _ (λ bag h. alike-from_agree same_cells same_cells-decides h) c.union-in-Union.ensures)
 
 pub returns-in-IntersectAll : goal.returns-in-IntersectAll
 returns-in-IntersectAll c =

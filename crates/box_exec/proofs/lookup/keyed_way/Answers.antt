@@ -1,0 +1,22 @@
+use Rattle.std.proofs.Common.{All, List, ◌∙◌, subst, sym}
+use Rattle.std.proofs.lemmas.Result.{IfOk-weaker}
+use Rattle.row_index.specs.Ways.{Indexes}
+use Rattle.row_index.specs.declared.rows.RowIndex.{RowIndex}
+use Rattle.box_exec.specs.Bound.{env_of}
+use Rattle.box_exec.specs.Lookup.{RejectsBy, row_hashes}
+use Rattle.box_exec.specs.declared.key.Key.{Key}
+use Rattle.box_exec.proofs.Lookups.{leads-all, some-is}
+use Rattle.box_exec.proofs.lookup.keyed_way.Goals as goal
+
+pub returns-in-Some : goal.returns-in-Some
+returns-in-Some c =
+    let k = c.args.k.now in
+    IfOk-weaker c.way_by.result _ _
+    (λ way f. λ test q rows e fits.
+    let is = some-is (λ (ix : RowIndex). Indexes (row_hashes q k.keys.items rows) ix) k.index c.in-Some.index c.in-Some.is fits.1 in
+    f test q rows e (subst (λ (ks : List Key). All (λ (k : Key). RejectsBy test q k) ks) (sym c.deref.ensures.value) fits.0)
+    (subst (λ (ks : List Key). Indexes (row_hashes q ks rows) c.in-Some.index) (sym c.deref.ensures.value) is))
+    c.way_by.ensures
+
+pub returns-in-None : goal.returns-in-None
+returns-in-None c = λ test q rows e fits. leads-all test q rows (env_of c.args.env.now) c.all_rows.result (c.all_rows.ensures.end ∙ e) c.all_rows.ensures.all
