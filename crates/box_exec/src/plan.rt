@@ -103,13 +103,12 @@ fn all_keyed<'a>(
     run: &Run<'_>,
     early: &[Early<'a>],
     loops: &[Loop<'_>],
-    indexed: bool,
     again: bool,
 ) -> Result<Vec<Option<Keyed<'a>>>, OutOfMemory>
     ensures keyed { IfOk result (λ made. spec.AllKeyed early.now loops.now made.items) }
-    ensures asked { indexed ≡ true → IfOk result (λ made. asked.AllAsked early.now loops.now made.items) }
+    ensures asked { run.now.indexed ≡ true → IfOk result (λ made. asked.AllAsked early.now loops.now made.items) }
 {
-    if !indexed {
+    if !run.indexed {
         return Ok(Vec::new(run.alloc));
     }
     let mut made = Vec::with_capacity(run.alloc, loops.len())?;
@@ -224,7 +223,7 @@ fn orders_of<'a>(
     }
     let loops = loops(run, &ranges, below)?;
     let early = early_conds(run.alloc, node, &ranges)?;
-    let keyed = all_keyed(run, &early, &loops, run.indexed, again)?;
+    let keyed = all_keyed(run, &early, &loops, again)?;
     made.push(Order {
         ranges,
         early,
@@ -261,7 +260,7 @@ pub(crate) fn plan_of<'a>(
         });
     }
     let early = early_conds(run.alloc, node, node.quants.as_slice())?;
-    let keyed = all_keyed(run, &early, over, run.indexed, again)?;
+    let keyed = all_keyed(run, &early, over, again)?;
     Ok(Plan {
         early,
         keyed,
