@@ -109,6 +109,20 @@ rows-past f rows i j old new le h =
     let more = row-least f rows i j le in
     (h.0, omega (arith, h.1, more))
 
+-- one more row has been gone through, and others up to a place have been passed over
+pub row-gone : (f : List Cell → ℕ) (rows : Bag) (i place next : ℕ) (r : Row (List Cell)) (cells : List Cell) (level lower : Level) (old s new now : ℕ) → i < length rows → r ≡ get_or rows i r → cells ≡ r.cells → lower ≡ least level r.level → i + 1 ≤ place → next ≡ place → new ≡ now
+    → Between 0 (each_row f (take i rows)) old s → Between 0 (at_level lower (f cells)) s new → Between 0 (each_row f (take next rows)) old now
+row-gone f rows i place next r cells level lower old s new now l at same low far is put before more =
+    subst (λ (n : ℕ). Between 0 (each_row f (take n rows)) old now) (sym is)
+    (subst (λ (u : ℕ). Between 0 (each_row f (take place rows)) old u) put
+    (rows-past f rows (i + 1) place old new far
+    (rows-took f rows i r level (f cells) old s new l at (ap f same) before (subst (λ (x : Level). Between 0 (at_level x (f cells)) s new) low more))))
+
+-- a row has been passed over, and others up to a place
+pub row-missed : (f : List Cell → ℕ) (rows : Bag) (i place next old s now : ℕ) → i + 1 ≤ place → next ≡ place → s ≡ now → Between 0 (each_row f (take i rows)) old s → Between 0 (each_row f (take next rows)) old now
+row-missed f rows i place next old s now far is put before =
+    subst (λ (n : ℕ). Between 0 (each_row f (take n rows)) old now) (sym is) (subst (λ (u : ℕ). Between 0 (each_row f (take place rows)) old u) put (rows-past f rows i place old s (omega (arith, far)) before))
+
 -- all rows have, of a bag that agrees with these
 pub all-took : (f : List Cell → ℕ) (rows others : Bag) (i : ℕ) (n whole old s new : ℕ) → length rows ≤ i → Alike rows others → whole ≡ n + each_row f others
     → Between 0 n old s → Between 0 (each_row f (take i rows)) s new → Between 0 whole old new
@@ -136,6 +150,21 @@ others-last (x ∷ rs) count env r = let h = others-last rs count env r in omega
 
 pub others-more : (rs : List OwnedQuant) (count : Counts) (env : Environment) (i : ℕ) (r : OwnedQuant) → i < length rs → r ≡ get_or rs i r → under_others (take (i + 1) rs) count env ≡ under_others (take i rs) count env + cond (is_F r.kind) 0 (count r.over env)
 others-more rs count env i r l at = ap (λ (xs : List OwnedQuant). under_others xs count env) (take_more rs i r l ∙ ap (λ (x : OwnedQuant). take i rs ++ x ∷ []) (sym at)) ∙ others-last (take i rs) count env r
+
+-- one more quantifier has been gone through: one that binds no rows, or one that does
+pub others-took : (rs : List OwnedQuant) (count : Counts) (env : Environment) (i : ℕ) (r : OwnedQuant) (old s new now : ℕ) → i < length rs → r ≡ get_or rs i r → is_F r.kind ≡ false → new ≡ now → Between 0 (under_others (take i rs) count env) old s → Between 0 (count r.over env) s new
+    → Between 0 (under_others (take (i + 1) rs) count env) old now
+others-took rs count env i r old s new now l at free put before here =
+    let more = others-more rs count env i r l at in
+    let one : cond (is_F r.kind) 0 (count r.over env) ≡ count r.over env = ap (λ (b : Bool). cond b 0 (count r.over env)) free in
+    (omega (arith, before.0, here.0, put), omega (arith, before.1, here.1, put, more, one))
+
+pub others-past : (rs : List OwnedQuant) (count : Counts) (env : Environment) (i : ℕ) (r : OwnedQuant) (old s now : ℕ) → i < length rs → r ≡ get_or rs i r → is_F r.kind ≡ true → s ≡ now → Between 0 (under_others (take i rs) count env) old s
+    → Between 0 (under_others (take (i + 1) rs) count env) old now
+others-past rs count env i r old s now l at binds put before =
+    let more = others-more rs count env i r l at in
+    let none : cond (is_F r.kind) 0 (count r.over env) ≡ 0 = ap (λ (b : Bool). cond b 0 (count r.over env)) binds in
+    (omega (arith, before.0, put), omega (arith, before.1, put, more, none))
 
 pub one-under : (rs : List OwnedQuant) (count : Counts) (env : Environment) (r : OwnedQuant) (xs : List OwnedQuant) → rs ≡ r ∷ xs → count r.over env ≤ under_each rs count env
 one-under rs count env r xs e = let h : under_each rs count env ≡ count r.over env + under_each xs count env = ap (λ (ys : List OwnedQuant). under_each ys count env) e in omega (arith, h)

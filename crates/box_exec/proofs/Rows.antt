@@ -6,15 +6,16 @@ use Rattle.list_laws.specs.Lists.{In}
 use Rattle.sql_value.specs.declared.cell.Cell.{Cell}
 use Rattle.qgm_core.specs.Kinds.{is_F}
 use Rattle.qgm_core.specs.Boxes.{has_box}
+use Rattle.qgm_core.specs.declared.kinds.BoxKind.{BoxKind}
 use Rattle.qgm_core.specs.declared.kinds.BoxKind.TheVariants.{Select}
 use Rattle.qgm_core.specs.declared.owned.OwnedQuant.{OwnedQuant}
-use Rattle.qgm_meaning.specs.Plain.{under_rows}
+use Rattle.qgm_meaning.specs.Plain.{counted_by, under_rows}
 use Rattle.qgm_meaning.specs.Values.{Environment, bound}
 use Rattle.box_exec.specs.Asked.{keys_at}
 use Rattle.box_exec.specs.Early.{is_open}
-use Rattle.box_exec.specs.Plans.{Planned, SeeksAt, SoughtAt, asked_takings_at, family, ranges, takings_left, ways_left}
+use Rattle.box_exec.specs.Plans.{Planned, SeeksAt, SoughtAt, asked_at, asked_takings_at, cost_at, family, ranges, takings_at, takings_left, ways_left}
 use Rattle.box_exec.specs.Sought.{AllSought, OpensAs}
-use Rattle.box_exec.specs.Taken.{bound_order, is_taken, takes}
+use Rattle.box_exec.specs.Taken.{bound_order, is_taken, taken_by, takes}
 use Rattle.box_exec.specs.Takings.{keys_by, order_by}
 use Rattle.box_exec.specs.declared.boxes.At.{At}
 use Rattle.box_exec.specs.declared.under.Loop.{Loop}
@@ -29,6 +30,13 @@ use Rattle.box_exec.proofs.Takings.{each-sum}
 abbrev pub row_takings : At → (ℕ → Bool) → ℕ → OwnedQuant → Environment → List Cell → ℕ
 row_takings at kept k r env cells =
     row_ways kept at.node.now (ranges at.loops.now) (family at) k r env cells + under_rows (drop (k + 1) at.node.now.quants) at.node.now.quants (family at) (asked_takings_at at kept) (bound r.id cells env)
+
+-- by the kind of the box
+pub kind-cost : (at : At) (kept : ℕ → Bool) (env : Environment) (kind : BoxKind) → at.node.now.parts.kind ≡ kind → cost_at at kept env ≡ counted_by kind at.node.now (family at) (asked_at at kept) env
+kind-cost at kept env kind is = ap (λ (k : BoxKind). counted_by k at.node.now (family at) (asked_at at kept) env) is
+
+pub kind-takings : (at : At) (kept : ℕ → Bool) (env : Environment) (kind : BoxKind) → at.node.now.parts.kind ≡ kind → takings_at at kept env ≡ taken_by kept kind at.node.now (family at) (asked_takings_at at kept) env
+kind-takings at kept env kind is = ap (λ (k : BoxKind). taken_by kept k at.node.now (family at) (asked_takings_at at kept) env) is
 
 true-not : (b : Bool) → true ≡ not b → b ≡ false
 true-not true h = absurd (let z : ⊥ = cc in z)

@@ -14,14 +14,14 @@ use Rattle.box_exec.specs.Plans.{asked_at, asked_takings_at, cost_at, cost_left,
 use Rattle.box_exec.specs.Sought.{OpensAs}
 use Rattle.box_exec.specs.Taken.{taken_by, ways}
 use Rattle.box_exec.specs.Takings.{PlanSeeks, Seeks}
-use Rattle.box_exec.proofs.Rows.{false-not, row-taken, row_takings, takings-bound, takings-over, text-order}
+use Rattle.box_exec.proofs.Rows.{false-not, kind-cost, kind-takings, row-taken, row_takings, takings-bound, takings-over, text-order}
 use Rattle.box_exec.proofs.Seeking.{row-counts-more}
 use Rattle.qgm_core.specs.declared.kinds.BoxKind.TheVariants.{Select}
 use Rattle.std.specs.List.{list_any}
 use Rattle.box_exec.specs.Costs.{Between, at_level}
 use Rattle.qgm_core.specs.declared.kinds.BoxKind.{BoxKind}
 use Rattle.qgm_meaning.specs.Plain.{counted_by, under_each, under_others, under_rows}
-use Rattle.box_exec.proofs.Evaluations.{all-took, each_row, one-under, others-more, rows-bound, rows-over, rows-past, rows-took}
+use Rattle.box_exec.proofs.Evaluations.{all-took, one-under, others-past, others-took, row-gone, row-missed, rows-bound, rows-over}
 use Rattle.box_exec.specs.Ready.{IsOpen, Stands, SubsOf, isnt_F, over_left}
 use Rattle.box_exec.specs.declared.under.Under.{Under}
 use Rattle.std.proofs.lemmas.List.{take_all}
@@ -131,11 +131,8 @@ each-loop-i-preserved g t c =
                 (subst (λ (n : ℕ). Alike new (c.args.out.now ++ keep level (bind (take n rows) f))) (sym c.place-i-in-loop-i.ensures)
                 (stepped (rejects at.early.now (k + 1)) l.range.id rows env way leads f rejected level c.args.out.now new (i + 1) cursor next stands done));
             took = λ kept keeps.
-                subst (λ (n : ℕ). Between 0 (each_row (cost kept) (take n rows)) c.rows_under.new.steps c.if-branch-2.steps) (sym c.place-i-in-loop-i.ensures)
-                (subst (λ (u : ℕ). Between 0 (each_row (cost kept) (take (place cursor) rows)) c.rows_under.new.steps u) put-steps
-                (rows-past (cost kept) rows (i + 1) (place cursor) c.rows_under.new.steps w.each-then-branch-2.new.steps low
-                (rows-took (cost kept) rows i r level (cost kept r.cells) c.rows_under.new.steps c.loop-i.steps w.each-then-branch-2.new.steps inside is-at refl (c.loop-i.invariant.took kept keeps)
-                (subst (λ (x : Level). Between 0 (at_level x (cost kept r.cells)) c.loop-i.steps w.each-then-branch-2.new.steps) w.least-level.ensures (w.in_ok-each.ensures.took kept keeps)))));
+                row-gone (cost kept) rows i (place cursor) c.place-i-in-loop-i.result r r.cells level w.least-level.result c.rows_under.new.steps c.loop-i.steps w.each-then-branch-2.new.steps c.if-branch-2.steps
+                inside is-at refl w.least-level.ensures low c.place-i-in-loop-i.ensures put-steps (c.loop-i.invariant.took kept keeps) (w.in_ok-each.ensures.took kept keeps);
             taken = λ kept seeks sought.
                 let yes : c.in_ok-is_taken.field-0 ≡ true = search rules in
                 let bound_to : is_F l.range.kind ≡ true = search rules in
@@ -146,12 +143,8 @@ each-loop-i-preserved g t c =
                 let more : ℕ = under_rows (drop (k + 1) at.node.now.quants) at.node.now.quants (family at) (asked_takings_at at kept) (bound l.range.id r.cells env) in
                 let counts : Between 0 (at_level w.least-level.result (row r.cells)) c.loop-i.tally.taken w.each-then-branch-2.new.tally.taken =
                 row-counts-more kept at.node.now (ranges at.loops.now) (family at) k l.range within place-at more w.least-level.result env r.cells c.loop-i.tally.taken w.take.new.taken w.each-then-branch-2.new.tally.taken is w.take.ensures.took (w.in_ok-each.ensures.taken kept seeks sought) in
-                let put-taken : w.each-then-branch-2.new.tally.taken ≡ c.if-branch-2.tally.taken = search rules in
-                subst (λ (n : ℕ). Between 0 (each_row row (take n rows)) c.rows_under.new.tally.taken c.if-branch-2.tally.taken) (sym c.place-i-in-loop-i.ensures)
-                (subst (λ (u : ℕ). Between 0 (each_row row (take (place cursor) rows)) c.rows_under.new.tally.taken u) put-taken
-                (rows-past row rows (i + 1) (place cursor) c.rows_under.new.tally.taken w.each-then-branch-2.new.tally.taken low
-                (rows-took row rows i r level (row r.cells) c.rows_under.new.tally.taken c.loop-i.tally.taken w.each-then-branch-2.new.tally.taken inside is-at refl (c.loop-i.invariant.taken kept seeks sought)
-                (subst (λ (x : Level). Between 0 (at_level x (row r.cells)) c.loop-i.tally.taken w.each-then-branch-2.new.tally.taken) w.least-level.ensures counts))));
+                row-gone row rows i (place cursor) c.place-i-in-loop-i.result r r.cells level w.least-level.result c.rows_under.new.tally.taken c.loop-i.tally.taken w.each-then-branch-2.new.tally.taken c.if-branch-2.tally.taken
+                inside is-at refl w.least-level.ensures low c.place-i-in-loop-i.ensures (search rules) (c.loop-i.invariant.taken kept seeks sought) counts;
             stands = seen-again way (i + 1) cursor leads.spans next stands;
             at = c.place-i-in-loop-i.ensures;
             counted = λ start h. search (rules, w.in_ok-each.ensures.counted start (c.loop-i.invariant.counted start h));
@@ -166,16 +159,9 @@ each-loop-i-preserved g t c =
             rows = subst (λ (o : Bag). Alike o (c.args.out.now ++ keep level (bind (take c.place-i-in-loop-i.result rows) f))) put
                 (subst (λ (n : ℕ). Alike c.loop-i.out (c.args.out.now ++ keep level (bind (take n rows) f))) (sym c.place-i-in-loop-i.ensures)
                 (stepped (rejects at.early.now (k + 1)) l.range.id rows env way leads f rejected level c.args.out.now c.loop-i.out (i + 1) cursor next stands done));
-            took = λ kept keeps.
-                subst (λ (n : ℕ). Between 0 (each_row (cost kept) (take n rows)) c.rows_under.new.steps c.if-branch-2.steps) (sym c.place-i-in-loop-i.ensures)
-                (subst (λ (u : ℕ). Between 0 (each_row (cost kept) (take (place cursor) rows)) c.rows_under.new.steps u) put-steps
-                (rows-past (cost kept) rows i (place cursor) c.rows_under.new.steps c.loop-i.steps (omega (arith, low)) (c.loop-i.invariant.took kept keeps)));
+            took = λ kept keeps. row-missed (cost kept) rows i (place cursor) c.place-i-in-loop-i.result c.rows_under.new.steps c.loop-i.steps c.if-branch-2.steps low c.place-i-in-loop-i.ensures put-steps (c.loop-i.invariant.took kept keeps);
             taken = λ kept seeks sought.
-                let row = row_takings at kept k l.range env in
-                let put-taken : c.loop-i.tally.taken ≡ c.if-branch-2.tally.taken = search rules in
-                subst (λ (n : ℕ). Between 0 (each_row row (take n rows)) c.rows_under.new.tally.taken c.if-branch-2.tally.taken) (sym c.place-i-in-loop-i.ensures)
-                (subst (λ (u : ℕ). Between 0 (each_row row (take (place cursor) rows)) c.rows_under.new.tally.taken u) put-taken
-                (rows-past row rows i (place cursor) c.rows_under.new.tally.taken c.loop-i.tally.taken (omega (arith, low)) (c.loop-i.invariant.taken kept seeks sought)));
+                row-missed (row_takings at kept k l.range env) rows i (place cursor) c.place-i-in-loop-i.result c.rows_under.new.tally.taken c.loop-i.tally.taken c.if-branch-2.tally.taken low c.place-i-in-loop-i.ensures (search rules) (c.loop-i.invariant.taken kept seeks sought);
             stands = seen-again way (i + 1) cursor leads.spans next stands;
             at = c.place-i-in-loop-i.ensures;
             counted = λ start h. search (rules, c.loop-i.invariant.counted start h);
@@ -264,22 +250,10 @@ subs-loop-i-preserved g t c =
           let put : w.push_sub.new.subs.items ≡ c.if-not-is_f.subs.items = search rules in
           record {
             rows = subst (λ (ss : _). SubsOf f env (filter isnt_F (take (i + 1) rs)) ss) put more;
-            took = λ kept keeps.
-                let more = others-more rs (asked_at at kept) env i r inside here in
-                let one : cond (is_F r.kind) 0 (asked_at at kept r.over env) ≡ asked_at at kept r.over env = ap (λ (b : Bool). cond b 0 (asked_at at kept r.over env)) free in
-                let so = c.loop-i.invariant.took kept keeps in
-                let now : Between 0 (asked_at at kept r.over env) c.loop-i.steps w.sub_under-rows.new.steps =
-                is_there w.sub_under-rows.result _ _ _ w.in_ok-push_sub.ensures (w.sub_under-rows.ensures.took kept keeps) (λ s e h. h) in
-                let steps : w.sub_under-rows.new.steps ≡ c.if-not-is_f.steps = search rules in
-                (omega (arith, so.0, now.0, steps), omega (arith, so.1, now.1, steps, more, one));
-            taken = λ kept seeks.
-                let more = others-more rs (asked_takings_at at kept) env i r inside here in
-                let one : cond (is_F r.kind) 0 (asked_takings_at at kept r.over env) ≡ asked_takings_at at kept r.over env = ap (λ (b : Bool). cond b 0 (asked_takings_at at kept r.over env)) free in
-                let so = c.loop-i.invariant.taken kept seeks in
-                let now : Between 0 (asked_takings_at at kept r.over env) c.loop-i.tally.taken w.sub_under-rows.new.tally.taken =
-                is_there w.sub_under-rows.result _ _ _ w.in_ok-push_sub.ensures (w.sub_under-rows.ensures.taken kept seeks) (λ s e h. h) in
-                let put-taken : w.sub_under-rows.new.tally.taken ≡ c.if-not-is_f.tally.taken = search rules in
-                (omega (arith, so.0, now.0, put-taken), omega (arith, so.1, now.1, put-taken, more, one));
+            took = λ kept keeps. others-took rs (asked_at at kept) env i r c.args.steps.now c.loop-i.steps w.sub_under-rows.new.steps c.if-not-is_f.steps inside here free (search rules) (c.loop-i.invariant.took kept keeps)
+                (is_there w.sub_under-rows.result _ _ _ w.in_ok-push_sub.ensures (w.sub_under-rows.ensures.took kept keeps) (λ s e h. h));
+            taken = λ kept seeks. others-took rs (asked_takings_at at kept) env i r c.args.tally.now.taken c.loop-i.tally.taken w.sub_under-rows.new.tally.taken c.if-not-is_f.tally.taken inside here free (search rules) (c.loop-i.invariant.taken kept seeks)
+                (is_there w.sub_under-rows.result _ _ _ w.in_ok-push_sub.ensures (w.sub_under-rows.ensures.taken kept seeks) (λ s e h. h));
             counted = λ start h. search (rules, w.sub_under-rows.ensures.counted start (c.loop-i.invariant.counted start h));
           }
       | subs-else-not-is_f w ↦
@@ -288,18 +262,8 @@ subs-loop-i-preserved g t c =
           let kept : c.loop-i.subs.items ≡ c.if-not-is_f.subs.items = search rules in
           record {
             rows = subst (λ (ss : _). SubsOf f env (filter isnt_F (take (i + 1) rs)) ss) kept (subst (λ (xs : List OwnedQuant). SubsOf f env xs c.loop-i.subs.items) (sym (free-same rs i r inside here bound_to)) c.loop-i.invariant.rows);
-            took = λ kept keeps.
-                let more = others-more rs (asked_at at kept) env i r inside here in
-                let none : cond (is_F r.kind) 0 (asked_at at kept r.over env) ≡ 0 = ap (λ (b : Bool). cond b 0 (asked_at at kept r.over env)) bound_to in
-                let so = c.loop-i.invariant.took kept keeps in
-                let steps : c.loop-i.steps ≡ c.if-not-is_f.steps = search rules in
-                (omega (arith, so.0, steps), omega (arith, so.1, steps, more, none));
-            taken = λ kept seeks.
-                let more = others-more rs (asked_takings_at at kept) env i r inside here in
-                let none : cond (is_F r.kind) 0 (asked_takings_at at kept r.over env) ≡ 0 = ap (λ (b : Bool). cond b 0 (asked_takings_at at kept r.over env)) bound_to in
-                let so = c.loop-i.invariant.taken kept seeks in
-                let put-taken : c.loop-i.tally.taken ≡ c.if-not-is_f.tally.taken = search rules in
-                (omega (arith, so.0, put-taken), omega (arith, so.1, put-taken, more, none));
+            took = λ kept keeps. others-past rs (asked_at at kept) env i r c.args.steps.now c.loop-i.steps c.if-not-is_f.steps inside here bound_to (search rules) (c.loop-i.invariant.took kept keeps);
+            taken = λ kept seeks. others-past rs (asked_takings_at at kept) env i r c.args.tally.now.taken c.loop-i.tally.taken c.if-not-is_f.tally.taken inside here bound_to (search rules) (c.loop-i.invariant.taken kept seeks);
             counted = λ start h. search (rules, c.loop-i.invariant.counted start h);
           }
     ]
@@ -334,23 +298,17 @@ of_kind-returns-in-Select-clause-took g t c = λ kept keeps.
 
 pub of_kind-returns-in-Group-clause-took : goal.of_kind-returns-in-Group-clause-took
 of_kind-returns-in-Group-clause-took g t c = λ kept keeps.
-    let at = c.args.at.now in
-    let env = env_of c.args.env.now in
-    let e : cost_at at kept env ≡ 1 + under_each at.node.now.quants (asked_at at kept) env = ap (λ (k : BoxKind). counted_by k at.node.now (family at) (asked_at at kept) env) c.in-Group.is in
+    let e = kind-cost c.args.at.now kept (env_of c.args.env.now) _ c.in-Group.is in
     IfOk-weaker c.groups.result _ _ (λ bag h. (omega (arith, h.0), omega (arith, h.1, e))) (c.groups.ensures.took kept keeps)
 
 pub of_kind-returns-in-SetOp-clause-took : goal.of_kind-returns-in-SetOp-clause-took
 of_kind-returns-in-SetOp-clause-took g t c = λ kept keeps.
-    let at = c.args.at.now in
-    let env = env_of c.args.env.now in
-    let e : cost_at at kept env ≡ 1 + under_each at.node.now.quants (asked_at at kept) env = ap (λ (k : BoxKind). counted_by k at.node.now (family at) (asked_at at kept) env) c.in-SetOp.is in
+    let e = kind-cost c.args.at.now kept (env_of c.args.env.now) _ c.in-SetOp.is in
     IfOk-weaker c.put_together.result _ _ (λ bag h. (omega (arith, h.0), omega (arith, h.1, e))) (c.put_together.ensures.took kept keeps)
 
 pub of_kind-returns-in-OuterJoin-clause-took : goal.of_kind-returns-in-OuterJoin-clause-took
 of_kind-returns-in-OuterJoin-clause-took g t c = λ kept keeps.
-    let at = c.args.at.now in
-    let env = env_of c.args.env.now in
-    let e : cost_at at kept env ≡ 1 + under_each at.node.now.quants (asked_at at kept) env = ap (λ (k : BoxKind). counted_by k at.node.now (family at) (asked_at at kept) env) c.in-OuterJoin.is in
+    let e = kind-cost c.args.at.now kept (env_of c.args.env.now) _ c.in-OuterJoin.is in
     IfOk-weaker c.joined.result _ _ (λ bag h. (omega (arith, h.0), omega (arith, h.1, e))) (c.joined.ensures.took kept keeps)
 
 pub selected-returns-clause-took : goal.selected-returns-clause-took
@@ -724,23 +682,17 @@ of_kind-returns-in-Select-clause-taken g t c = λ kept seeks.
 
 pub of_kind-returns-in-Group-clause-taken : goal.of_kind-returns-in-Group-clause-taken
 of_kind-returns-in-Group-clause-taken g t c = λ kept seeks.
-    let at = c.args.at.now in
-    let env = env_of c.args.env.now in
-    let e : takings_at at kept env ≡ under_each at.node.now.quants (asked_takings_at at kept) env = ap (λ (k : BoxKind). taken_by kept k at.node.now (family at) (asked_takings_at at kept) env) c.in-Group.is in
+    let e = kind-takings c.args.at.now kept (env_of c.args.env.now) _ c.in-Group.is in
     IfOk-weaker c.groups.result _ _ (λ bag h. (omega (arith, h.0), omega (arith, h.1, e))) (c.groups.ensures.taken kept seeks)
 
 pub of_kind-returns-in-SetOp-clause-taken : goal.of_kind-returns-in-SetOp-clause-taken
 of_kind-returns-in-SetOp-clause-taken g t c = λ kept seeks.
-    let at = c.args.at.now in
-    let env = env_of c.args.env.now in
-    let e : takings_at at kept env ≡ under_each at.node.now.quants (asked_takings_at at kept) env = ap (λ (k : BoxKind). taken_by kept k at.node.now (family at) (asked_takings_at at kept) env) c.in-SetOp.is in
+    let e = kind-takings c.args.at.now kept (env_of c.args.env.now) _ c.in-SetOp.is in
     IfOk-weaker c.put_together.result _ _ (λ bag h. (omega (arith, h.0), omega (arith, h.1, e))) (c.put_together.ensures.taken kept seeks)
 
 pub of_kind-returns-in-OuterJoin-clause-taken : goal.of_kind-returns-in-OuterJoin-clause-taken
 of_kind-returns-in-OuterJoin-clause-taken g t c = λ kept seeks.
-    let at = c.args.at.now in
-    let env = env_of c.args.env.now in
-    let e : takings_at at kept env ≡ under_each at.node.now.quants (asked_takings_at at kept) env = ap (λ (k : BoxKind). taken_by kept k at.node.now (family at) (asked_takings_at at kept) env) c.in-OuterJoin.is in
+    let e = kind-takings c.args.at.now kept (env_of c.args.env.now) _ c.in-OuterJoin.is in
     IfOk-weaker c.joined.result _ _ (λ bag h. (omega (arith, h.0), omega (arith, h.1, e))) (c.joined.ensures.taken kept seeks)
 
 pub selected-returns-then-all_kept-clause-taken : goal.selected-returns-then-all_kept-clause-taken
