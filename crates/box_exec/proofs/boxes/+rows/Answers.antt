@@ -1,7 +1,7 @@
 use Rattle.std.proofs.Common.{ℕ, All, Bool, Some, cond, slice_get, append-nil, ◌≡◌, ◌≤◌, ◌<◌, ◌+◌, ◌++◌, true, false, List, length, drop, filter, get_or, take, refl, sym, ap, ◌∙◌, subst, arith, rules}
 use Rattle.std.proofs.lemmas.Result.{IfOk-weaker, on_ok_weaker}
 use Rattle.std.specs.Result.{OnOk}
-use Rattle.row_bag.specs.Bags.{Alike, keep}
+use Rattle.row_bag.specs.Bags.{Alike, bind, keep}
 use Rattle.qgm_core.specs.Kinds.{is_F, is_enforce}
 use Rattle.qgm_core.specs.declared.owned.OwnedQuant.{OwnedQuant}
 use Rattle.qgm_meaning.specs.Meaning.{grouped_rows, once_if}
@@ -20,7 +20,7 @@ use Rattle.qgm_core.specs.declared.kinds.BoxKind.TheVariants.{Select}
 use Rattle.std.specs.List.{list_any}
 use Rattle.box_exec.specs.Costs.{Between, at_level}
 use Rattle.qgm_core.specs.declared.kinds.BoxKind.{BoxKind}
-use Rattle.qgm_meaning.specs.Plain.{counted_by, under_each, under_others, under_rows}
+use Rattle.qgm_meaning.specs.Plain.{counted_by, under_others, under_rows}
 use Rattle.box_exec.proofs.Evaluations.{all-took, one-under, others-past, others-took, row-gone, row-missed, rows-bound, rows-over}
 use Rattle.box_exec.specs.Ready.{IsOpen, Stands, SubsOf, isnt_F, over_left}
 use Rattle.box_exec.specs.declared.under.Under.{Under}
@@ -30,7 +30,7 @@ use Rattle.box_exec.specs.Sources.{held}
 use Rattle.box_exec.proofs.Loops.{each-all, each-more, rows-once}
 use Rattle.box_exec.proofs.Lookups.{some-is, stepped}
 use Rattle.std.proofs.lemmas.Option.{IfSome_then}
-use Rattle.box_exec.specs.Early.{is_open}
+use Rattle.box_exec.specs.Early.{is_open, rejects}
 use Rattle.box_exec.specs.Lookup.{Hashes}
 use Rattle.box_exec.specs.Outer.{rejects_on}
 use Rattle.box_exec.proofs.Hashing.{kept-alike}
@@ -39,8 +39,6 @@ use Rattle.box_exec.specs.Lasting.{PlanFits, rows_kept, rows_stored}
 use Rattle.box_exec.specs.declared.plan.Plan.{Plan}
 use Rattle.box_exec.specs.declared.under.Loop.{Loop}
 use Rattle.std.specs.Borrow.{Bor}
-use Rattle.box_exec.specs.Early.{rejects}
-use Rattle.row_bag.specs.Bags.{bind}
 use Rattle.row_bag.proofs.Agreement.{alike-same}
 use Rattle.row_bag.specs.RowRefs.{lent}
 use Rattle.row_bag.proofs.Places.{read-at}
@@ -381,9 +379,8 @@ each-returns-in_default-clause-took g t c = λ kept keeps.
 
 pub add_head-returns-clause-took : goal.add_head-returns-clause-took
 add_head-returns-clause-took g t c = λ kept keeps.
-    let at = c.args.at.now in
     on_ok_weaker c.add_given.result
-    (λ h. subst (λ (rs : List OwnedQuant). Between 0 (under_others rs (asked_at at kept) (env_of c.args.env.now)) c.args.steps.now c.subs.new.steps) c.requires.planned.ranged (c.in_ok-subs.ensures.took kept keeps))
+    (λ h. subst (λ (rs : List OwnedQuant). Between 0 (under_others rs (asked_at c.args.at.now kept) (env_of c.args.env.now)) c.args.steps.now c.subs.new.steps) c.requires.planned.ranged (c.in_ok-subs.ensures.took kept keeps))
     c.add_given.ensures
 
 pub rows_under-returns-in-Open-clause-rows : goal.rows_under-returns-in-Open-clause-rows
@@ -448,9 +445,8 @@ sub_under-returns-clause-rows g t c =
 pub joined-outer_joined-requires : goal.joined-outer_joined-requires
 joined-outer_joined-requires g t c =
     let at = c.args.at.now in
-    let q = c.q-item.result in
     IfSome_then c.made_right.result c.made_right.ensures
-    (λ h f. IfOk-weaker c.rows_under-ys.result _ _ (λ s e. subst (λ (b : Bag). Hashes (rejects_on at.node.now) q.range.id b h.now) (sym e) f.1) (c.rows_under-ys.ensures.kept f.0))
+    (λ h f. IfOk-weaker c.rows_under-ys.result _ _ (λ s e. subst (λ (b : Bag). Hashes (rejects_on at.node.now) c.q-item.result.range.id b h.now) (sym e) f.1) (c.rows_under-ys.ensures.kept f.0))
 
 pub subs-returns-clause-took : goal.subs-returns-clause-took
 subs-returns-clause-took g t c = λ kept keeps.
@@ -774,9 +770,8 @@ each-returns-in_default-clause-taken g t c = λ kept seeks sought.
 
 pub add_head-returns-clause-taken : goal.add_head-returns-clause-taken
 add_head-returns-clause-taken g t c = λ kept seeks.
-    let at = c.args.at.now in
     on_ok_weaker c.add_given.result
-    (λ h. subst (λ (rs : List OwnedQuant). Between 0 (under_others rs (asked_takings_at at kept) (env_of c.args.env.now)) c.args.tally.now.taken c.subs.new.tally.taken) c.requires.planned.ranged (c.in_ok-subs.ensures.taken kept seeks))
+    (λ h. subst (λ (rs : List OwnedQuant). Between 0 (under_others rs (asked_takings_at c.args.at.now kept) (env_of c.args.env.now)) c.args.tally.now.taken c.subs.new.tally.taken) c.requires.planned.ranged (c.in_ok-subs.ensures.taken kept seeks))
     c.add_given.ensures
 
 pub rows_under-returns-in-Open-clause-taken : goal.rows_under-returns-in-Open-clause-taken
