@@ -27,6 +27,7 @@ pub enum Question {
     Root,
     /// `len`: how many boxes there are.
     Len,
+    Slots,
     /// `names`: the output columns, each its name or `-`.
     Names,
     /// `keys`: the keys of the order, as `1 asc 2 desc`.
@@ -60,6 +61,7 @@ impl Question {
             Question::Rank(b) => rank(alloc, graph, b),
             Question::Root => one(alloc, graph.root()),
             Question::Len => one(alloc, graph.len()),
+            Question::Slots => one(alloc, graph.slots()),
             Question::Names => named(alloc, graph),
             Question::Keys => keyed(alloc, graph.order().as_slice()),
             Question::Quants(b) => owned(alloc, graph, b),
@@ -114,6 +116,7 @@ fn of_word(word: &str) -> Option<Question> {
         "check" => Some(Question::Check),
         "root" => Some(Question::Root),
         "len" => Some(Question::Len),
+        "slots" => Some(Question::Slots),
         "names" => Some(Question::Names),
         "keys" => Some(Question::Keys),
         _ => None,
