@@ -22,8 +22,8 @@ use row_bag::{RowRef, presence, scalar};
 use row_index::{first_of, next_of};
 use shared_types::OutOfMemory;
 use sql_value::{
-    Cell, CmpOp, Kind, Level, Text, Truth, add, and, compare, concat, decided, div, is_null, like,
-    mul, neg, not, or, same, sub,
+    Cell, CharacterString, CmpOp, Kind, Level, Text, Truth, add, and, compare, concat, decided,
+    div, is_null, like, mul, neg, not, or, same, sub,
 };
 use std::alloc::Global;
 
@@ -32,7 +32,7 @@ use std::alloc::Global;
 pub(crate) fn text(alloc: Global, characters: &Text) -> Result<Cell, OutOfMemory>
     ensures { IfOk result (λ cell. cell ≡ Cell.Text characters.now) }
 {
-    Ok(Cell::Text(characters.copy(alloc)?))
+    Ok(Cell::Text(CharacterString::from_chars(alloc, characters.as_slice())?))
 }
 
 /// An operation on two cells.

@@ -1,12 +1,12 @@
 // What the fields of a record hold.
-ghost use Rattle.std.specs.Prelude.{◌≡◌, IfOk};
+ghost use Rattle.std.specs.Prelude.{◌≡◌, ◌<◌, IfOk, drop, length};
 ghost use Rattle.std.specs.Str.{bytes_eq};
 ghost use Rattle.csv_tables.specs.Cells.{integer_of, null_text};
 ghost use Rattle.csv_tables.specs.Contents as spec;
 
-use shared_types::{OutOfMemory, Text};
+use shared_types::OutOfMemory;
 use sql_ast::DataType;
-use sql_value::Cell;
+use sql_value::{Cell, CharacterString};
 use std::alloc::Global;
 
 /// What a field holds, by the type of its column.
@@ -53,28 +53,37 @@ fn integer_content(field: &[u8]) -> Content
 }
 
 // Whether a text begins with `\\`.
-fn begins_escaped(text: &[char]) -> bool
+fn begins_escaped(text: &CharacterString) -> bool
     ensures { result ≡ spec.begins_escaped text.now }
 {
-    match text {
-        [first, second, ..] => *first == '\\' && *second == '\\',
-        [] | [_] => false,
+    text.len() >= 2 && text.at(0) == '\\' && text.at(1) == '\\'
+}
+
+// The characters behind the first.
+fn without_first(alloc: Global, text: &CharacterString) -> Result<CharacterString, OutOfMemory>
+    requires { 0 < length text.now }
+    ensures { IfOk result (λ t. t ≡ drop 1 text.now) }
+{
+    let mut chars = Vec::new(alloc);
+    for place in 1..text.len() {
+        chars.push(text.at(place))?;
     }
+    CharacterString::from_chars(alloc, chars.as_slice())
 }
 
 // The text that the characters of a field stand for: one that begins with `\\` loses one `\`.
-fn unescaped(alloc: Global, text: Text) -> Result<Text, OutOfMemory>
+fn unescaped(alloc: Global, text: CharacterString) -> Result<CharacterString, OutOfMemory>
     ensures { IfOk result (λ t. t ≡ spec.unescaped text) }
 {
-    if begins_escaped(text.as_slice()) {
-        Text::from_chars(alloc, &text.as_slice()[1..])
+    if begins_escaped(&text) {
+        without_first(alloc, &text)
     } else {
         Ok(text)
     }
 }
 
 // Whether a text has more characters than this.
-fn is_longer(text: &[char], limit: i64) -> bool
+fn is_longer(text: &CharacterString, limit: i64) -> bool
     ensures { result ≡ spec.is_longer text.now limit }
 {
     match usize::try_from(limit) {
@@ -93,8 +102,8 @@ fn text_content(alloc: Global, limit: i64, field: &[u8]) -> Result<Content, OutO
     let Ok(written) = std::str::from_utf8(field) else {
         return Ok(Content::BadUtf8);
     };
-    let text = unescaped(alloc, Text::from_utf8(alloc, written)?)?;
-    if is_longer(text.as_slice(), limit) {
+    let text = unescaped(alloc, CharacterString::from_utf8(alloc, written)?)?;
+    if is_longer(&text, limit) {
         return Ok(Content::TooLong);
     }
     Ok(Content::Holds(Cell::Text(text)))

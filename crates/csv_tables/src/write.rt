@@ -1,5 +1,5 @@
 // The text of a header and rows.
-ghost use Rattle.std.specs.Prelude.{◌≡◌, ◌++◌, ◌∷◌, ◌+◌, [], IfOk, OnOk, map, encode_utf8_all};
+ghost use Rattle.std.specs.Prelude.{◌≡◌, ◌++◌, ◌∷◌, ◌+◌, [], IfOk, IfSome, OnOk, map, encode_utf8_all};
 ghost use Rattle.std.specs.String.{string_bytes};
 ghost use Rattle.csv.specs.Records.{fields_of, partial_of};
 ghost use Rattle.csv_tables.specs.Cells as spec;
@@ -8,9 +8,9 @@ ghost use Rattle.csv_tables.specs.Printed.{column_text, header_from, printed_row
 
 use csv::{ByteRecord, WriterBuilder};
 use itoa::Buffer;
-use row_bag::Bag;
+use row_bag::OrderedBag;
 use shared_types::{OutOfMemory, Text};
-use sql_value::{Cell, OutNames};
+use sql_value::{Cell, CharacterString, OutNames};
 use std::alloc::Global;
 
 // Adds a field.
@@ -60,12 +60,19 @@ fn put_names(alloc: Global, names: &OutNames, fields: &mut ByteRecord) -> Result
     Ok(())
 }
 
+// Whether a text begins with `\`.
+fn begins_with_backslash(text: &CharacterString) -> bool
+    ensures { result ≡ spec.begins_with_backslash text.now }
+{
+    text.len() > 0 && text.at(0) == '\\'
+}
+
 // The characters of a text in UTF-8; a text that begins with `\` has that sign twice.
-fn escaped(alloc: Global, text: &Text) -> Result<String, OutOfMemory>
+fn escaped(alloc: Global, text: &CharacterString) -> Result<String, OutOfMemory>
     ensures { IfOk result (λ s. string_bytes s ≡ encode_utf8_all (spec.escaped text.now)) }
 {
     let written = text.to_utf8(alloc)?;
-    if !begins_with_backslash(text.as_slice()) {
+    if !begins_with_backslash(text) {
         return Ok(written);
     }
     let mut doubled = String::new(alloc);
@@ -74,14 +81,31 @@ fn escaped(alloc: Global, text: &Text) -> Result<String, OutOfMemory>
     Ok(doubled)
 }
 
-// Whether a text begins with `\`.
-fn begins_with_backslash(text: &[char]) -> bool
-    ensures { result ≡ spec.begins_with_backslash text.now }
+// The bytes that write a text, where they stand as they are written.
+fn written_bytes(text: &CharacterString) -> Option<&[u8]>
+    ensures { IfSome result (λ bytes. bytes.now ≡ encode_utf8_all (spec.escaped text.now)) }
 {
-    match text.first() {
-        Some(c) => *c == '\\',
-        None => false,
+    if begins_with_backslash(text) {
+        None
+    } else {
+        text.ascii()
     }
+}
+
+// Adds the field of a text.
+fn put_text(
+    alloc: Global,
+    text: &CharacterString,
+    fields: &mut ByteRecord,
+) -> Result<(), OutOfMemory>
+    ensures fields { OnOk result (fields_of fields.new ≡ fields_of fields.old ++ (partial_of fields.old ++ encode_utf8_all (spec.escaped text.now)) ∷ []) }
+    ensures whole { OnOk result (partial_of fields.new ≡ []) }
+{
+    if let Some(bytes) = written_bytes(text) {
+        return put_field(bytes, fields);
+    }
+    let written = escaped(alloc, text)?;
+    put_field(written.as_bytes(), fields)
 }
 
 // Adds the field of a cell. An error cell is never written, since an answer with one is that
@@ -95,10 +119,7 @@ fn put_cell(alloc: Global, cell: &Cell, fields: &mut ByteRecord) -> Result<(), O
             let mut buffer = Buffer::new();
             put_field(buffer.format(*number).as_bytes(), fields)
         }
-        Cell::Text(text) => {
-            let text = escaped(alloc, text)?;
-            put_field(text.as_bytes(), fields)
-        }
+        Cell::Text(text) => put_text(alloc, text, fields),
         Cell::Null => put_field(b"\\N", fields),
         Cell::Err(_) => put_field(b"", fields),
     }
@@ -119,7 +140,7 @@ fn put_cells(alloc: Global, cells: &[Cell], fields: &mut ByteRecord) -> Result<(
 /// line feed at the end of each. Null is `\N`, and a text that begins with `\` has that sign
 /// twice. A column without a name has the name `COLn`, where n is its place from 1. It fails for
 /// want of memory alone.
-pub fn write_rows(alloc: Global, names: &OutNames, bag: &Bag) -> Result<Vec<u8>, OutOfMemory>
+pub fn write_rows(alloc: Global, names: &OutNames, bag: &OrderedBag) -> Result<Vec<u8>, OutOfMemory>
     ensures { IfOk result (λ v. v.items ≡ printed_rows names.now bag.now) }
 {
     let mut writer = WriterBuilder::new()

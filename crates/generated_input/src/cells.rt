@@ -4,8 +4,8 @@ ghost use Rattle.generated_input.specs.Made as spec;
 
 use itoa::Buffer;
 use row_bag::Row;
-use shared_types::{OutOfMemory, Text};
-use sql_value::{Cell, Level};
+use shared_types::OutOfMemory;
+use sql_value::{Cell, CharacterString, Level};
 use sqlite_items::Items;
 use std::alloc::Global;
 
@@ -34,16 +34,16 @@ fn integer(n: u64) -> Cell
 }
 
 // B, and a number in decimal.
-fn named(alloc: Global, n: u64) -> Result<Text, OutOfMemory>
+fn named(alloc: Global, n: u64) -> Result<CharacterString, OutOfMemory>
     ensures { IfOk result (λ t. t ≡ spec.name_of n) }
 {
-    let mut name = Text::new(alloc)?;
+    let mut name = Vec::new(alloc);
     name.push('B')?;
     let mut buffer = Buffer::new();
     for b in buffer.format(n).as_bytes() {
         name.push(*b as char)?;
     }
-    Ok(name)
+    CharacterString::from_chars(alloc, name.as_slice())
 }
 
 // One of fifty names, or null.

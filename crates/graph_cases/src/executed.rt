@@ -8,7 +8,7 @@ use qgm_check::{IllFormed, check_graph};
 use qgm_core::Graph;
 use qgm_edit_laws::checked_laws;
 use qgm_wellformed::fault_laws;
-use row_bag::{Bag, Tables, Verdict, sorted, verdict};
+use row_bag::{Bag, OrderedBag, Tables, Verdict, sorted, verdict};
 use sql_value::{Cell, Kind};
 use std::alloc::Global;
 use std::marker::Brand;
@@ -140,7 +140,7 @@ fn error_text(kind: Kind) -> &'static str {
 }
 
 // Appends rows.
-fn add_rows(alloc: Global, text: &mut String, rows: &Bag) -> Result<(), LineError> {
+fn add_rows(alloc: Global, text: &mut String, rows: &OrderedBag) -> Result<(), LineError> {
     if rows.len() == 0 {
         text.push_str("none")?;
     }

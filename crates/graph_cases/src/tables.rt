@@ -3,7 +3,7 @@ use crate::faults::LineError;
 use crate::items::{Item, Rest};
 use crate::script::Line;
 use row_bag::{Bag, Row, Table, Tables};
-use sql_value::{Cell, Level};
+use sql_value::{Cell, CharacterString, Level};
 use sqlite_items::Items;
 use std::alloc::Global;
 
@@ -19,9 +19,9 @@ fn value(word: &str) -> Result<Cell, LineError> {
 }
 
 // The cell that an item writes.
-fn cell(item: Item) -> Result<Cell, LineError> {
+fn cell(alloc: Global, item: Item) -> Result<Cell, LineError> {
     match item {
-        Item::Quoted(text) => Ok(Cell::Text(text)),
+        Item::Quoted(text) => Ok(Cell::Text(CharacterString::from_chars(alloc, text.as_slice())?)),
         Item::Word(word) => value(word.as_str()),
         Item::Cell(_) | Item::Cond(_) => Err(LineError::Faulty("a table holds values alone")),
     }
@@ -31,7 +31,7 @@ fn cell(item: Item) -> Result<Cell, LineError> {
 fn row(alloc: Global, rest: Rest) -> Result<Row, LineError> {
     let mut cells = Items::new(alloc);
     for item in rest.into_items() {
-        cells.push(cell(item)?)?;
+        cells.push(cell(alloc, item)?)?;
     }
     Ok(Row {
         cells,

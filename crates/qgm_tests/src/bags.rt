@@ -2,11 +2,11 @@
 use Level::{No, Yes};
 use Sample::{E, I, N, S};
 use row_bag::{
-    Bag, Operand, Row, Table, Tables, Verdict, distinct, except, intersect, row_order, sorted,
-    union, verdict,
+    Bag, Operand, OrderedBag, Row, Table, Tables, Verdict, distinct, except, intersect, row_order,
+    sorted, union, verdict,
 };
 use shared_types::{OutOfMemory, Text};
-use sql_value::{Cell, Kind, Level, OrderKey};
+use sql_value::{Cell, CharacterString, Kind, Level, OrderKey};
 use sqlite_items::Items;
 use std::alloc::Global;
 use std::test::Fail;
@@ -28,7 +28,7 @@ type Keys = &'static [(usize, bool)];
 fn cell(alloc: Global, sample: Sample) -> Result<Cell, OutOfMemory> {
     Ok(match sample {
         I(number) => Cell::Int(number),
-        S(text) => Cell::Text(Text::from_utf8(alloc, text)?),
+        S(text) => Cell::Text(CharacterString::from_utf8(alloc, text)?),
         N => Cell::Null,
         E(kind) => Cell::Err(kind),
     })
@@ -49,13 +49,18 @@ fn bag(alloc: Global, rows: Rows) -> Result<Bag, OutOfMemory> {
     Ok(made)
 }
 
-fn equal(a: &Bag, b: &Bag) -> bool {
+fn equal(a: &OrderedBag, b: &Bag) -> bool {
     a.len() == b.len() && (0..a.len()).all(|i| row_order(a.at(i), b.at(i)).is_eq())
+}
+
+// Whether these are the rows, which stand in their order.
+fn are(alloc: Global, made: OrderedBag, rows: Rows) -> Result<bool, OutOfMemory> {
+    Ok(equal(&sorted(made, &Items::new(alloc))?, &bag(alloc, rows)?))
 }
 
 // Whether a bag has these rows, which stand in their order.
 fn has(alloc: Global, made: Bag, rows: Rows) -> Result<bool, OutOfMemory> {
-    Ok(equal(&sorted(made, &Items::new(alloc))?, &bag(alloc, rows)?))
+    are(alloc, OrderedBag::new(made), rows)
 }
 
 const UNSORTED: Rows = &[
@@ -115,7 +120,7 @@ fn keys_decide_before_all_columns(rt: HostRuntime) -> Result<(), Fail> {
                 descending: *descending,
             })?;
         }
-        let made = sorted(bag(alloc, UNSORTED)?, &order)?;
+        let made = sorted(OrderedBag::new(bag(alloc, UNSORTED)?), &order)?;
         assert!(rt; equal(&made, &bag(alloc, expected)?));
     }
     Ok(())
@@ -151,10 +156,10 @@ fn the_greatest_error_is_the_answer(rt: HostRuntime) -> Result<(), Fail> {
     for (rows, error, shown) in VERDICTS {
         let (kind, rows) = match verdict(bag(alloc, rows)?) {
             Verdict::Rows(rows) => (None, rows),
-            Verdict::Error(kind) => (Some(kind), Bag::new(alloc)),
+            Verdict::Error(kind) => (Some(kind), OrderedBag::new(Bag::new(alloc))),
         };
         assert_eq!(rt; kind, *error);
-        assert!(rt; has(alloc, rows, shown)?);
+        assert!(rt; are(alloc, rows, shown)?);
     }
     Ok(())
 }

@@ -64,27 +64,3 @@ raised-high ts rows i k r a b m l size past found first second made =
 pub there-even : (ts : List Tuple) (rows : List (Row Tuple)) → those_there (at_yes ts ++ rows) ≡ at_yes ts ++ those_there rows
 there-even [] rows = refl
 there-even (t ∷ ts) rows = ap (λ (x : List (Row Tuple)). row t Yes ∷ x) (there-even ts rows)
-
--- ---- rows in an order
-
-even-at : (ts : List Tuple) (i : ℕ) → i < length ts → row_at (at_yes ts) i ≡ row (get_or ts i []) Yes
-even-at ts i low = get_or-map (λ c. row c Yes) ts i [] (row [] Yes) low
-
--- even rows whose tuples are brought into an order
-pub even-arranged : (ts new : List Tuple) (rows : List (Row Tuple)) (order : List ℕ) → rows ≡ [] → length order ≡ length ts → length new ≡ length ts → All (λ p. p < length ts) order
-    → ((k : ℕ) → k < length order → slice_get new k ≡ slice_get ts (get_or order k 0)) → at_yes new ++ rows ≡ rows_at (at_yes ts ++ rows) order
-even-arranged ts new rows order nothing count many within so =
-    rw nothing (append-nil (at_yes new) ∙ in_order ∙ ap (λ t. rows_at t order) (sym (append-nil (at_yes ts))))
-  where
-    tuple : (k : ℕ) → k < length order → get_or new k [] ≡ get_or ts (get_or order k 0) []
-    tuple k low = sym (unwrap_or-slice_get new k []) ∙ ap (λ o. unwrap_or o []) (so k low) ∙ unwrap_or-slice_get ts (get_or order k 0) []
-
-    in_order : at_yes new ≡ rows_at (at_yes ts) order
-    in_order =
-        ext_get_or (row [] Yes) (at_yes new) (rows_at (at_yes ts) order) (length-map new (λ c. row c Yes) ∙ many ∙ sym count ∙ sym (length-map order (row_at (at_yes ts)))) (λ k low.
-        let size = length-map new (λ (c : Tuple). row c Yes) in
-        let inside : k < length order = omega (arith, low, size, many, count) in
-        get_or-map (λ c. row c Yes) new k [] (row [] Yes) (omega (arith, low, size))
-        ∙ ap (λ c. row c Yes) (tuple k inside)
-        ∙ sym (even-at ts (get_or order k 0) (within k 0 inside))
-        ∙ sym (get_or-map (row_at (at_yes ts)) order k 0 (row [] Yes) inside))

@@ -1,6 +1,5 @@
 pub mod Agreement
 pub mod Answered
-pub mod Arranging
 pub mod BagLaws
 pub mod Binds
 pub mod Chains
@@ -8,6 +7,7 @@ pub mod Copies
 pub mod Counts
 pub mod Cutting
 pub mod Deciding
+pub mod Digits
 pub mod Filtering
 pub mod Entering
 pub mod FirstCells
@@ -30,6 +30,7 @@ pub mod Means
 pub mod OneRow
 pub mod Onlys
 pub mod Order
+pub mod Ordering
 pub mod Places
 pub mod Products
 pub mod Ranking
@@ -41,7 +42,6 @@ pub mod SortedOnce
 pub mod Standing
 pub mod Tagging
 mod Taken
-pub mod Swapping
 pub mod TupleBags
 pub mod Values
 pub mod Worst

@@ -1,14 +1,12 @@
 -- Ranks keep the order of rows by keys.
-use Rattle.std.proofs.Common.{ℕ, ◌+◌, ◌<◌, ◌≡◌, min, ℤ, pos, neg_ℤ, ◌<ℤ◌, Bool, true, false, if◌then◌else◌, All, List, [], ◌∷◌, ◌++◌, get_or, length, length-append, map, nat_eq, refl, sym, ap, ap₂, ◌∙◌, arith, inl, inr}
+use Rattle.std.proofs.Common.{ℕ, ◌+◌, ◌<◌, ◌≡◌, ℤ, pos, neg_ℤ, ◌<ℤ◌, Bool, true, false, if◌then◌else◌, All, List, [], ◌∷◌, ◌++◌, get_or, length, length-append, map, nat_eq, refl, sym, ap, ap₂, ◌∙◌, arith, inl, inr}
 use Rattle.std.proofs.Math.Seq.{get_or-append_seam}
 use Rattle.std.proofs.lemmas.Bool.{cases_eq, cases_lt}
 use Rattle.std.proofs.lemmas.Int.{clamps, ints}
 use Rattle.std.proofs.lemmas.Cmp.{int_cmp_total}
 use Rattle.std.proofs.lemmas.List.{ext_get_or, get_or-map, get_or_append_left, get_or_default, length-map}
 use Rattle.std.proofs.lemmas.List.Sorted.{All-permutation, IsPermutation-map, ranks_by}
-use Rattle.std.proofs.lemmas.Map.Keys.{IsDistinct-IsPermutation, IsDistinct-from_apart}
-use Rattle.std.specs.List.{IsDistinct}
-use Rattle.std.specs.Cmp.{IsStrictWeakOrder, IsTotalOrder, int_cmp_is, int_ranks, nat_cmp_is, on_total, then_total}
+use Rattle.std.specs.Cmp.{IsStrictWeakOrder, IsTotalOrder, int_cmp_is, int_ranks, on_total, then_total}
 use Rattle.std.specs.List.Sorted.{IsPermutation, IsSortedBy}
 use Rattle.std.specs.Cmp.Lexicographic.{slice_cmp}
 use Rattle.std.specs.Ordering.{MatchOrdering, int_cmp, is_lt, nat_cmp, ordering_reverse, ordering_then}
@@ -26,14 +24,8 @@ use Rattle.row_bag.specs.declared.row.Row.{Row}
 use Rattle.row_bag.specs.declared.sort.Ranked.{Ranked}
 use Rattle.sql_value.specs.declared.level.Level.TheVariants.{Yes}
 use Rattle.row_bag.specs.Bags.{row}
+use Rattle.row_bag.proofs.Digits.{leading-less, leading-low}
 use Rattle.row_bag.proofs.Order.{by-total}
-use Rattle.row_bag.proofs.Swapping.{other}
-
-first-less : (s t : List ℕ) → min (get_or s 0 0) 1114111 < min (get_or t 0 0) 1114111 → slice_cmp nat_cmp s t ≡ Less
-first-less [] [] low = absurd (omega (arith, low))
-first-less [] (y ∷ t) low = refl
-first-less (x ∷ s) [] low = absurd (omega (arith, low))
-first-less (x ∷ s) (y ∷ t) low = ap (λ o. ordering_then o (slice_cmp nat_cmp s t)) (sym (nat_cmp_is x y Less (omega (arith, low))))
 
 pub rank-less : (a b : Cell) → rank a <ℤ rank b → cell_compare a b ≡ Less
 rank-less Null Null low = absurd (omega (arith, ints, clamps, low))
@@ -46,11 +38,11 @@ rank-less (Int x) (Text t) low = refl
 rank-less (Int x) (Err k) low = refl
 rank-less (Text s) Null low = absurd (omega (arith, ints, clamps, low))
 rank-less (Text s) (Int y) low = absurd (omega (arith, ints, clamps, low))
-rank-less (Text s) (Text t) low = first-less s t (omega (arith, ints, clamps, low))
+rank-less (Text s) (Text t) low = leading-less 8 s t (omega (arith, ints, clamps, low))
 rank-less (Text s) (Err k) low = refl
 rank-less (Err j) Null low = absurd (omega (arith, ints, clamps, low))
 rank-less (Err j) (Int y) low = absurd (omega (arith, ints, clamps, low))
-rank-less (Err j) (Text t) low = absurd (omega (arith, ints, clamps, low))
+rank-less (Err j) (Text t) low = let few = leading-low 8 t in absurd (omega (arith, ints, clamps, low, few))
 rank-less (Err j) (Err k) low = absurd (omega (arith, ints, clamps, low))
 
 not-below-null : (a : Cell) → cell_compare a Null ≡ Less → ⊥
@@ -151,10 +143,7 @@ own-moved rows ranked moved own count permuted =
     let changed = IsPermutation-map (row_at rows) (places_of ranked) (places_of moved) (IsPermutation-map (λ (p : Ranked). p.place) ranked moved permuted) in
     rw (own-rows rows ranked own count) at changed
 
-turned : (x y : ℕ) → nat_eq x y ≡ nat_eq y x
-turned x y = elim (cases_eq x y) [ inl is ↦ rw is refl | inr differ ↦ other x y differ ∙ sym (other y x (λ e. differ (sym e))) ]
-
--- places that are moved stay within, and each once
+-- places that are moved stay within
 pub own-within : (n : ℕ) (ranked moved : List Ranked) → AreOwn ranked → length ranked ≡ n → IsPermutation ranked moved → All (λ p. p < n) (places_of moved)
 own-within n ranked moved own count permuted =
     All-permutation (λ p. p < n) (places_of ranked) (places_of moved) (IsPermutation-map (λ (p : Ranked). p.place) ranked moved permuted) (λ k d low.
@@ -162,12 +151,3 @@ own-within n ranked moved own count permuted =
     let inside : k < length ranked = omega (arith, low, size) in
     let is : get_or (places_of ranked) k d ≡ k = get_or_default (places_of ranked) k d 0 low ∙ own-at ranked k own inside in
     omega (arith, is, inside, count))
-
-pub own-once : (ranked moved : List Ranked) → AreOwn ranked → IsPermutation ranked moved → IsDistinct nat_eq (places_of moved)
-own-once ranked moved own permuted =
-    IsDistinct-IsPermutation nat_eq turned (places_of ranked) (places_of moved) (IsPermutation-map (λ (p : Ranked). p.place) ranked moved permuted)
-    (IsDistinct-from_apart nat_eq (places_of ranked) (λ i j d below low.
-    let size = length-map ranked (λ (p : Ranked). p.place) in
-    let one : get_or (places_of ranked) i d ≡ i = get_or_default (places_of ranked) i d 0 (omega (arith, below, low)) ∙ own-at ranked i own (omega (arith, below, low, size)) in
-    let two : get_or (places_of ranked) j d ≡ j = get_or_default (places_of ranked) j d 0 low ∙ own-at ranked j own (omega (arith, low, size)) in
-    other (get_or (places_of ranked) i d) (get_or (places_of ranked) j d) (λ e. omega (arith, one, two, below, e))))

@@ -6,6 +6,7 @@ ghost use Rattle.row_bag.specs.RowRefs.{lent};
 ghost use Rattle.row_bag.specs.Verdict as spec;
 
 use crate::bag::Bag;
+use crate::ordered::OrderedBag;
 use crate::outcome::Verdict;
 use crate::row::{Row, RowRef};
 use sql_value::{Cell, Kind, Level};
@@ -100,6 +101,6 @@ pub fn verdict(bag: Bag) -> Verdict
 {
     match error_among(&bag) {
         Some(kind) => Verdict::Error(kind),
-        None => Verdict::Rows(those_there(bag)),
+        None => Verdict::Rows(OrderedBag::new(those_there(bag))),
     }
 }

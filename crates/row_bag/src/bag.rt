@@ -1,8 +1,6 @@
 // The rows of a table or of a query's result.
-ghost use Rattle.std.specs.Prelude.{◌≡◌, ◌<◌, ◌++◌, ◌∷◌, [], All, List, IfOk, OnErr, OnOk, Some, length, nat_eq, slice_get, slice_set};
-ghost use Rattle.std.specs.List.{IsDistinct};
-ghost use Rattle.row_bag.specs.Bags.{row};
-ghost use Rattle.row_bag.specs.Places.{rows_at};
+ghost use Rattle.std.specs.Prelude.{◌≡◌, ◌<◌, ◌++◌, ◌∷◌, [], List, OnErr, OnOk, Some, length, slice_get, slice_set, vec_capacity};
+ghost use Rattle.row_bag.specs.Bags.{row, unit};
 ghost use Rattle.row_bag.specs.RowRefs.{lent};
 ghost use Rattle.row_bag.specs.Verdict.{those_there};
 ghost use Rattle.row_bag.specs.declared.row.Row.{Row};
@@ -10,14 +8,32 @@ ghost use Rattle.sql_value.specs.Level.{greatest};
 ghost use Rattle.sql_value.specs.declared.cell.Cell.{Cell};
 
 use crate::answer::is_there;
-use crate::arranged::arrange;
 use crate::grid::Grid;
 use crate::row::{Row, RowRef};
-use crate::tuples::{append_copied, copied_row};
+use crate::tuples::{append_copied, copied};
 use shared_types::OutOfMemory;
-use sql_value::{Level, greatest};
+use sql_value::{Cell, Level, greatest};
+use sqlite_items::Items;
 use std::alloc::Global;
 use std::marker::Model;
+
+// Adds a row of these cells at this level at the end, and leaves the vector empty.
+fn push_apart(rows: &mut Vec<Row>, level: Level, cells: &mut Vec<Cell>) -> Result<(), OutOfMemory>
+    ensures ok { OnOk result (rows.new.items ≡ rows.old.items ++ row cells.old.items level ∷ []) }
+    ensures err { OnErr result (rows.new.items ≡ rows.old.items) }
+    ensures drained { OnOk result (cells.new.items ≡ []) }
+    ensures kept { OnErr result (cells.new.items ≡ cells.old.items) }
+    ensures room { vec_capacity cells.new ≡ vec_capacity cells.old }
+{
+    rows.reserve(1)?;
+    let mut own = Vec::new(*rows.allocator());
+    own.append(cells)?;
+    rows.push(Row {
+        cells: Items::from_vec(own),
+        level,
+    })?;
+    Ok(())
+}
 
 /// Rows, of which several may be equal. Contracts see it as the list of the rows.
 #[derive(Drop)]
@@ -92,6 +108,53 @@ impl Bag {
         }
     }
 
+    /// Adds a row of these cells at this level at the end, and leaves the vector empty, with its room.
+    pub(crate) fn push_drained_at(
+        &mut self,
+        level: Level,
+        tuple: &mut Vec<Cell>,
+    ) -> Result<(), OutOfMemory>
+        ensures ok { OnOk result (self.new ≡ self.old ++ row tuple.old.items level ∷ []) }
+        ensures err { OnErr result (self.new ≡ self.old) }
+        ensures drained { OnOk result (tuple.new.items ≡ []) }
+        ensures kept { OnErr result (tuple.new.items ≡ tuple.old.items) }
+        ensures room { vec_capacity tuple.new ≡ vec_capacity tuple.old }
+    {
+        if level == Level::Yes && self.mixed.is_empty() && self.even.fits(tuple.len()) {
+            self.even.push_drained(tuple)
+        } else {
+            push_apart(&mut self.mixed, level, tuple)
+        }
+    }
+
+    /// Adds a row of these cells at yes at the end, and leaves the vector empty, with its room. It fails
+    /// only for want of memory, and then both are as before.
+    pub fn push_drained(&mut self, row: &mut Vec<Cell>) -> Result<(), OutOfMemory>
+        ensures ok { OnOk result (self.new ≡ self.old ++ unit row.old.items) }
+        ensures err { OnErr result (self.new ≡ self.old) }
+        ensures drained { OnOk result (row.new.items ≡ []) }
+        ensures kept { OnErr result (row.new.items ≡ row.old.items) }
+        ensures room { vec_capacity row.new ≡ vec_capacity row.old }
+    {
+        self.push_drained_at(Level::Yes, row)
+    }
+
+    /// Adds a copy of a row at the end. It fails only for want of memory, and then the rows are as before.
+    pub fn push_copied(&mut self, alloc: Global, row: RowRef<'_>) -> Result<(), OutOfMemory>
+        ensures ok { OnOk result (self.new ≡ self.old ++ lent row.entry ∷ []) }
+        ensures err { OnErr result (self.new ≡ self.old) }
+    {
+        if row.level == Level::Yes && self.mixed.is_empty() && self.even.fits(row.cells.len()) {
+            self.even.push_copied(alloc, row.cells)
+        } else {
+            self.mixed.push(Row {
+                cells: copied(alloc, row.cells)?,
+                level: row.level,
+            })?;
+            Ok(())
+        }
+    }
+
     /// Moves rows to the end, if all of both are even and of this width, and else copies them there.
     fn append_even(&mut self, width: usize, rows: Bag) -> Result<(), OutOfMemory>
         ensures { OnOk result (self.new ≡ self.old ++ rows) }
@@ -133,33 +196,5 @@ impl Bag {
         ensures { self.new ≡ those_there self.old }
     {
         self.mixed.retain(|row| is_there(row));
-    }
-
-    // Copies of the rows at places, in the order of these.
-    fn gathered(&self, order: &[usize]) -> Result<Bag, OutOfMemory>
-        requires { All (λ p. p < length self.now) order.now }
-        ensures { IfOk result (λ made. made ≡ rows_at self.now order.now) }
-    {
-        let alloc = self.allocator();
-        let mut made = Bag::new(alloc);
-        for place in order {
-            made.push(copied_row(alloc, self.at(*place))?)?;
-        }
-        Ok(made)
-    }
-
-    /// The rows at places, in the order of these, where each place occurs once. Even rows are moved.
-    pub(crate) fn arranged(self, order: &[usize]) -> Result<Bag, OutOfMemory>
-        requires count { length order.now ≡ length self }
-        requires within { All (λ p. p < length self) order.now }
-        requires once { IsDistinct nat_eq order.now }
-        ensures { IfOk result (λ made. made ≡ rows_at self order.now) }
-    {
-        if !self.mixed.is_empty() {
-            return self.gathered(order);
-        }
-        let Bag { mut even, mixed } = self;
-        arrange(&mut even, order)?;
-        Ok(Bag { even, mixed })
     }
 }

@@ -1,7 +1,8 @@
 // Tuples of one width, cell after cell.
-ghost use Rattle.std.specs.Prelude.{◌≡◌, ◌≤◌, ◌<◌, ◌+◌, ◌*◌, ◌++◌, ◌∷◌, ◌^◌, ℕ, [], IfOk, IsTrue, OnErr, OnOk, Some, length, slice_get};
-ghost use Rattle.row_bag.specs.Grids.{AreSwapped, AreWide, swapped};
+ghost use Rattle.std.specs.Prelude.{◌≡◌, ◌<◌, ◌++◌, ◌∷◌, ◌^◌, [], IsTrue, OnErr, OnOk, Some, length, slice_get, vec_capacity};
+ghost use Rattle.row_bag.specs.Grids.{AreWide};
 
+use crate::tuples::append_all;
 use shared_types::OutOfMemory;
 use sql_value::Cell;
 use sqlite_items::Items;
@@ -21,18 +22,6 @@ fn append_moved(cells: &mut Vec<Cell>, tuple: Items<Cell>) -> Result<(), OutOfMe
     }
     cells[start..].reverse();
     Ok(())
-}
-
-// Puts the cells of two tuples of a width in each other's place.
-fn swap_cells(cells: &mut Vec<Cell>, width: usize, i: usize, j: usize)
-    requires first { i * width + width ≤ length cells.old.items }
-    requires second { j * width + width ≤ length cells.old.items }
-    ensures count { length cells.new.items ≡ length cells.old.items }
-    ensures swapped { AreSwapped width width i j cells.old.items cells.new.items }
-{
-    for c in 0..width {
-        cells.swap(i * width + c, j * width + c);
-    }
 }
 
 /// Tuples of one width, in one piece of memory. Contracts see it as the list of the tuples.
@@ -109,6 +98,34 @@ impl Grid {
         Ok(())
     }
 
+    /// Moves the cells of a vector to the end, as a tuple.
+    pub(crate) fn push_drained(&mut self, tuple: &mut Vec<Cell>) -> Result<(), OutOfMemory>
+        requires { AreWide (length tuple.old.items) self.old }
+        ensures ok { OnOk result (self.new ≡ self.old ++ tuple.old.items ∷ []) }
+        ensures err { OnErr result (self.new ≡ self.old) }
+        ensures drained { OnOk result (tuple.new.items ≡ []) }
+        ensures kept { OnErr result (tuple.new.items ≡ tuple.old.items) }
+        ensures room { vec_capacity tuple.new ≡ vec_capacity tuple.old }
+    {
+        let width = tuple.len();
+        self.cells.append(tuple)?;
+        self.width = width;
+        self.count += 1;
+        Ok(())
+    }
+
+    /// Adds a copy of a tuple at the end.
+    pub(crate) fn push_copied(&mut self, alloc: Global, tuple: &[Cell]) -> Result<(), OutOfMemory>
+        requires { AreWide (length tuple.now) self.old }
+        ensures ok { OnOk result (self.new ≡ self.old ++ tuple.now ∷ []) }
+        ensures err { OnErr result (self.new ≡ self.old) }
+    {
+        append_all(alloc, &mut self.cells, tuple)?;
+        self.width = tuple.len();
+        self.count += 1;
+        Ok(())
+    }
+
     /// How many cells the tuples have, where there are any.
     pub(crate) fn width(&self) -> usize {
         self.width
@@ -129,15 +146,5 @@ impl Grid {
         self.width = width;
         self.count += count;
         Ok(())
-    }
-
-    /// Puts two tuples in each other's place.
-    pub(crate) fn swap(&mut self, i: usize, j: usize)
-        requires first { i < length self.old }
-        requires second { j < length self.old }
-        ensures count { length self.new ≡ length self.old }
-        ensures swapped { (k : ℕ) → slice_get self.new k ≡ slice_get self.old (swapped i j k) }
-    {
-        swap_cells(&mut self.cells, self.width, i, j);
     }
 }

@@ -9,7 +9,7 @@ ghost use Rattle.sql_value.specs.declared.cell.Cell.TheVariants.{Null};
 use crate::bag::Bag;
 use crate::row::{Row, RowRef};
 use crate::subqueries::any_there;
-use crate::tuples::{append_cells, copied};
+use crate::tuples::append_cells;
 use shared_types::OutOfMemory;
 use sql_value::{Cell, Level, least};
 use sqlite_items::Items;
@@ -65,10 +65,14 @@ pub fn with_nulls(alloc: Global, left: &[Cell], width: usize) -> Result<Row, Out
 fn push_kept(alloc: Global, out: &mut Bag, level: Level, row: RowRef<'_>) -> Result<(), OutOfMemory>
     ensures { OnOk result (out.new ≡ out.old ++ keep level (lent row.entry ∷ [])) }
 {
-    out.push(Row {
-        cells: copied(alloc, row.cells)?,
-        level: least(level, row.level),
-    })
+    let level = least(level, row.level);
+    out.push_copied(
+        alloc,
+        RowRef {
+            cells: row.cells,
+            level,
+        },
+    )
 }
 
 // Adds copies of rows at the end, each at the lower one of its level and this one.
@@ -94,13 +98,31 @@ pub fn append_kept(out: &mut Bag, level: Level, rows: Bag) -> Result<(), OutOfMe
     }
 }
 
+// Adds cells and then those of a row at the end, at its level. The vector holds them meanwhile.
+fn push_beside(
+    alloc: Global,
+    out: &mut Bag,
+    cells: &mut Vec<Cell>,
+    left: &[Cell],
+    right: RowRef<'_>,
+) -> Result<(), OutOfMemory>
+    requires { cells.old.items ≡ [] }
+    ensures row { OnOk result (out.new ≡ out.old ++ spec.beside left.now (lent right.entry) ∷ []) }
+    ensures drained { OnOk result (cells.new.items ≡ []) }
+{
+    append_cells(alloc, cells, left)?;
+    append_cells(alloc, cells, right.cells)?;
+    out.push_drained_at(right.level, cells)
+}
+
 // Cells beside each row.
 fn beside_each(alloc: Global, left: &[Cell], ys: &Bag) -> Result<Bag, OutOfMemory>
     ensures { IfOk result (λ made. made ≡ map (spec.beside left.now) ys.now) }
 {
     let mut made = Bag::new(alloc);
+    let mut cells = Vec::new(alloc);
     for i in 0..ys.len() {
-        made.push(beside(alloc, left, ys.at(i))?)?;
+        push_beside(alloc, &mut made, &mut cells, left, ys.at(i))?;
     }
     Ok(made)
 }

@@ -3,7 +3,6 @@
 
 mod aggregates;
 mod answer;
-mod arranged;
 mod bag;
 mod grid;
 mod groups;
@@ -11,6 +10,7 @@ mod joins;
 mod laws;
 mod matched;
 mod operand;
+mod ordered;
 mod outcome;
 mod row;
 mod sets;
@@ -29,6 +29,7 @@ pub use groups::key_error_of;
 pub use joins::{append_kept, beside, cells_beside, nulls, or_with_nulls, product, with_nulls};
 pub use laws::{bag_laws, filter_laws, fold_laws, join_laws, key_laws, set_laws, tag_laws};
 pub use operand::Operand;
+pub use ordered::OrderedBag;
 pub use outcome::Verdict;
 pub use row::{Row, RowRef, order_by, row_order, same_cells};
 pub use sets::{distinct, except, failed_cells, failed_row, intersect, union};

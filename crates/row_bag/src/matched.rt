@@ -9,9 +9,8 @@ ghost use Rattle.sql_value.specs.declared.cell.Cell.{Cell};
 ghost use Rattle.sql_value.specs.declared.level.Level.{Level};
 
 use crate::bag::Bag;
-use crate::row::{Row, RowRef};
+use crate::row::RowRef;
 use crate::tuple_index::{HasTuples, TupleIndex, hash_of};
-use crate::tuples::copied;
 use shared_types::OutOfMemory;
 use sql_value::{Cell, Level};
 use std::alloc::Global;
@@ -277,10 +276,8 @@ fn keep_copy(alloc: Global, kept: &mut Bag, cells: &[Cell], wanted: bool) -> Res
     ensures { OnOk result (kept.new ≡ (if wanted then kept.old ++ row cells.now Level.Yes ∷ [] else kept.old)) }
 {
     if wanted {
-        kept.push(Row {
-            cells: copied(alloc, cells)?,
-            level: Level::Yes,
-        })?;
+        let level = Level::Yes;
+        kept.push_copied(alloc, RowRef { cells, level })?;
         Ok(())
     } else {
         Ok(())

@@ -1,12 +1,12 @@
 // What a query answers.
-use crate::bag::Bag;
+use crate::ordered::OrderedBag;
 use sql_value::Kind;
 
 /// What a query answers.
 #[derive(Drop)]
 pub enum Verdict {
-    /// The rows.
-    Rows(Bag),
+    /// The rows, in an order.
+    Rows(OrderedBag),
     /// A runtime error, and no row.
     Error(Kind),
 }

@@ -14,7 +14,7 @@ use crate::matched::matching;
 use crate::operand::Operand;
 use crate::row::{Row, RowRef};
 use crate::tuple_index::{TupleIndex, hash_of};
-use crate::tuples::{append_copied, copied_row};
+use crate::tuples::append_copied;
 use shared_types::OutOfMemory;
 use sql_value::{Cell, Kind, greatest, level_of};
 use sqlite_items::Items;
@@ -29,15 +29,21 @@ fn raise(kept: &mut Bag, place: usize, row: RowRef<'_>)
     kept.raise(place, row.level);
 }
 
-// Adds a row of a tuple, of this hash, that doesn't stand among the rows.
-fn keep_new(index: &mut TupleIndex, kept: &mut Bag, hash: u64, row: Row) -> Result<(), OutOfMemory>
+// Adds a copy of a row of a tuple, of this hash, that doesn't stand among the rows.
+fn keep_new(
+    alloc: Global,
+    index: &mut TupleIndex,
+    kept: &mut Bag,
+    hash: u64,
+    row: RowRef<'_>,
+) -> Result<(), OutOfMemory>
     requires index { index.old ≡ hashes_of (tuples_of kept.old) }
-    requires hash { hash ≡ hash_of row.cells }
+    requires hash { hash ≡ hash_of (lent row).cells }
     ensures index { OnOk result (index.new ≡ hashes_of (tuples_of kept.new)) }
-    ensures kept { OnOk result (kept.new ≡ kept.old ++ row ∷ []) }
+    ensures kept { OnOk result (kept.new ≡ kept.old ++ lent row.entry ∷ []) }
 {
     index.push(hash)?;
-    kept.push(row)?;
+    kept.push_copied(alloc, row)?;
     Ok(())
 }
 
@@ -61,7 +67,7 @@ fn keep(
             Ok(())
         }
         None => {
-            keep_new(index, kept, hash, copied_row(alloc, row)?)?;
+            keep_new(alloc, index, kept, hash, row)?;
             Ok(())
         }
     }

@@ -1,3 +1,4 @@
 mod Greedy
+mod Listing
 pub mod Laws
 pub mod Total

@@ -1,3 +1,4 @@
+pub mod Characters
 pub mod Cells
 pub mod Level
 pub mod Truths

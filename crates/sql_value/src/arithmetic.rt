@@ -1,9 +1,10 @@
 // Arithmetic, and texts put together.
-ghost use Rattle.std.specs.Prelude.{◌≡◌, ◌++◌, IfOk};
+ghost use Rattle.std.specs.Prelude.{◌≡◌, IfOk};
 ghost use Rattle.sql_value.specs.Arithmetic as spec;
 
 use crate::cell::{Cell, Kind, worst};
-use shared_types::{OutOfMemory, Text};
+use crate::character_string::CharacterString;
+use shared_types::OutOfMemory;
 use std::alloc::Global;
 
 // A result, or the error that there is none within 64 bits.
@@ -93,17 +94,6 @@ pub fn neg(a: &Cell) -> Cell
     }
 }
 
-// The characters of one text and then those of another.
-fn joined(alloc: Global, s: &Text, t: &Text) -> Result<Text, OutOfMemory>
-    ensures { IfOk result (λ text. text ≡ s.now ++ t.now) }
-{
-    let mut text = s.copy(alloc)?;
-    for c in t.as_slice() {
-        text.push(*c)?;
-    }
-    Ok(text)
-}
-
 /// `a || b` (SQL-92 6.13): the characters of the first text and then those of the second. An
 /// error among the operands gives the greatest of them; else operands that are not both texts
 /// give null. It fails only for want of memory.
@@ -116,5 +106,5 @@ pub fn concat(alloc: Global, a: &Cell, b: &Cell) -> Result<Cell, OutOfMemory>
     let (Cell::Text(s), Cell::Text(t)) = (a, b) else {
         return Ok(Cell::Null);
     };
-    Ok(Cell::Text(joined(alloc, s, t)?))
+    Ok(Cell::Text(CharacterString::joined(alloc, s, t)?))
 }

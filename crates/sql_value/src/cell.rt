@@ -3,6 +3,7 @@ ghost use Rattle.std.specs.Prelude.{◌≡◌, IfOk};
 ghost use Rattle.std.specs.Cmp.{IsTotalOrder};
 ghost use Rattle.sql_value.specs.Cells as spec;
 
+use crate::character_string::CharacterString;
 use shared_types::{OutOfMemory, Text};
 use sqlite_items::Items;
 use std::alloc::Global;
@@ -23,7 +24,7 @@ pub enum Kind {
 #[derive(Drop)]
 pub enum Cell {
     Int(i64),
-    Text(Text),
+    Text(CharacterString),
     Null,
     Err(Kind),
 }

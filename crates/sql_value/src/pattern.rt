@@ -1,36 +1,36 @@
 // Texts that fit a pattern.
 ghost use Rattle.std.specs.Prelude.{◌≡◌, [], drop};
+ghost use Rattle.sql_value.specs.Characters.{listed};
 ghost use Rattle.sql_value.specs.Like as spec;
 
 use crate::cell::{Cell, worst};
+use crate::characters::Characters;
 use crate::truth::{Truth, decided, error, unknown};
 
 // Whether `%` stands at a place of a pattern.
-fn any_at(pattern: &[char], place: usize) -> bool
-    ensures { result ≡ spec.begins_any (drop place pattern.now) }
+fn any_at(pattern: Characters<'_>, place: usize) -> bool
+    ensures { result ≡ spec.begins_any (drop place (listed pattern.entry)) }
 {
-    match pattern.get(place) {
-        Some(sign) => *sign == '%',
-        None => false,
-    }
+    place < pattern.len() && pattern.at(place) == '%'
 }
 
 // Whether at a place of a pattern a sign other than `%` stands for this character.
-fn one_at(pattern: &[char], place: usize, c: char) -> bool
-    ensures { result ≡ spec.begins_one (drop place pattern.now) c }
+fn one_at(pattern: Characters<'_>, place: usize, c: char) -> bool
+    ensures { result ≡ spec.begins_one (drop place (listed pattern.entry)) c }
 {
-    match pattern.get(place) {
-        Some(sign) => *sign != '%' && (*sign == '_' || *sign == c),
-        None => false,
+    if place >= pattern.len() {
+        return false;
     }
+    let sign = pattern.at(place);
+    sign != '%' && (sign == '_' || sign == c)
 }
 
-// Whether the empty text fits a pattern.
-fn fits_nothing(pattern: &[char]) -> bool
-    ensures { result ≡ spec.fits pattern.now [] }
+// Whether the empty text fits a pattern from a place on.
+fn fits_nothing(pattern: Characters<'_>, place: usize) -> bool
+    ensures { result ≡ spec.fits (drop place (listed pattern.entry)) [] }
 {
-    for sign in pattern {
-        if *sign != '%' {
+    for i in place..pattern.len() {
+        if pattern.at(i) != '%' {
             return false;
         }
     }
@@ -39,8 +39,8 @@ fn fits_nothing(pattern: &[char]) -> bool
 
 // Whether a text fits a pattern. After a sign `%` the rest of the pattern is tried from each place
 // of the text on, up to the next `%`, which takes over where it is reached.
-fn fits(pattern: &[char], text: &[char]) -> bool
-    ensures { result ≡ spec.fits pattern.now text.now }
+fn fits(pattern: Characters<'_>, text: Characters<'_>) -> bool
+    ensures { result ≡ spec.fits (listed pattern.entry) (listed text.entry) }
 {
     let mut i = 0;
     let mut j = 0;
@@ -49,7 +49,7 @@ fn fits(pattern: &[char], text: &[char]) -> bool
         if any_at(pattern, j) {
             j += 1;
             retry = Some((i, j));
-        } else if one_at(pattern, j, text[i]) {
+        } else if one_at(pattern, j, text.at(i)) {
             i += 1;
             j += 1;
         } else if let Some((start, after)) = retry {
@@ -60,7 +60,7 @@ fn fits(pattern: &[char], text: &[char]) -> bool
             return false;
         }
     }
-    fits_nothing(&pattern[j..])
+    fits_nothing(pattern, j)
 }
 
 /// `a LIKE pattern` (SQL-92 8.5): in the pattern `%` stands for any sequence of characters, `_`
@@ -76,5 +76,5 @@ pub fn like(a: &Cell, pattern: &Cell) -> Truth
     let (Cell::Text(text), Cell::Text(pattern)) = (a, pattern) else {
         return unknown();
     };
-    decided(fits(pattern.as_slice(), text.as_slice()))
+    decided(fits(pattern.characters(), text.characters()))
 }

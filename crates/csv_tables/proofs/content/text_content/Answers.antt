@@ -12,10 +12,10 @@ returns-in_default c = text-invalid c.args.limit c.args.field.now (sym c.is_null
 
 pub returns-then-is_longer : goal.returns-then-is_longer
 returns-then-is_longer c =
-    text-within c.args.limit c.args.field.now c.in_ok-from_utf8.field-0 c.as_slice.result.now true (sym c.is_null_text.ensures ∙ c.if-is_null_text.false) c.in-Ok.ensures.cases.1
-    (c.in_ok-from_utf8.ensures ∙ c.in-Ok.ensures.cases.0) (c.as_slice.ensures ∙ c.in_ok-text.ensures) (ap (λ z. is_longer c.as_slice.result.now z) (sym (to_z-of_z w64 c.args.limit c.ranges.limit)) ∙ sym c.is_longer.ensures ∙ c.if-is_longer.true)
+    text-within c.args.limit c.args.field.now c.in_ok-from_utf8.field-0 c.in_ok-text.text true (sym c.is_null_text.ensures ∙ c.if-is_null_text.false) c.in-Ok.ensures.cases.1
+    (c.in_ok-from_utf8.ensures ∙ c.in-Ok.ensures.cases.0) c.in_ok-text.ensures (ap (λ z. is_longer c.in_ok-text.text z) (sym (to_z-of_z w64 c.args.limit c.ranges.limit)) ∙ sym c.is_longer.ensures ∙ c.if-is_longer.true)
 
 pub returns : goal.returns
 returns c =
-    rw (← c.as_slice.ensures) (text-within c.args.limit c.args.field.now c.in_ok-from_utf8.field-0 c.as_slice.result.now false (sym c.is_null_text.ensures ∙ c.if-is_null_text.false) c.in-Ok.ensures.cases.1
-    (c.in_ok-from_utf8.ensures ∙ c.in-Ok.ensures.cases.0) (c.as_slice.ensures ∙ c.in_ok-text.ensures) (ap (λ z. is_longer c.as_slice.result.now z) (sym (to_z-of_z w64 c.args.limit c.ranges.limit)) ∙ sym c.is_longer.ensures ∙ c.if-is_longer.false))
+    text-within c.args.limit c.args.field.now c.in_ok-from_utf8.field-0 c.in_ok-text.text false (sym c.is_null_text.ensures ∙ c.if-is_null_text.false) c.in-Ok.ensures.cases.1
+    (c.in_ok-from_utf8.ensures ∙ c.in-Ok.ensures.cases.0) c.in_ok-text.ensures (ap (λ z. is_longer c.in_ok-text.text z) (sym (to_z-of_z w64 c.args.limit c.ranges.limit)) ∙ sym c.is_longer.ensures ∙ c.if-is_longer.false)

@@ -4,6 +4,3 @@ use Rattle.csv_tables.proofs.write.put_cell.Goals as goal
 
 pub returns-in-Int-clause-fields : goal.returns-in-Int-clause-fields
 returns-in-Int-clause-fields c = grind (arith, common_steps)
-
-pub returns-in_ok-text-in-Text-clause-fields : goal.returns-in_ok-text-in-Text-clause-fields
-returns-in_ok-text-in-Text-clause-fields c = grind (arith, common_steps)

@@ -11,7 +11,7 @@ use Rattle.row_bag.proofs.sets.keep.Goals as goal
 pub returns-in_ok-keep_new-in-None-clause-once : goal.returns-in_ok-keep_new-in-None-clause-once
 returns-in_ok-keep_new-in-None-clause-once c = λ once t.
     let none : often c.args.row.cells.now (tuples_of c.args.kept.now) ≡ 0 = c.in-None.ensures.none refl in
-    rw (c.in_ok-keep_new-in-None.ensures.kept, c.in_ok-copied_row-in-None.ensures, map_push (λ (r : Row Tuple). r.cells) c.args.kept.now (lent c.args.row)) (different-push (tuples_of c.args.kept.now) c.args.row.cells.now none once t)
+    rw (c.in_ok-keep_new-in-None.ensures.kept, map_push (λ (r : Row Tuple). r.cells) c.args.kept.now (lent c.args.row)) (different-push (tuples_of c.args.kept.now) c.args.row.cells.now none once t)
 
 pub returns-in_ok-keep_new-in-None-clause-levels : goal.returns-in_ok-keep_new-in-None-clause-levels
 returns-in_ok-keep_new-in-None-clause-levels c = grind (arith, common_steps)

@@ -1,13 +1,13 @@
 use Rattle.std.proofs.Common.{◌+◌, ◌∙◌, sym, arith}
-use Rattle.std.proofs.lemmas.List.{take_rest}
+use Rattle.sql_value.specs.Characters.{listed}
 use Rattle.sql_value.proofs.Greedy.{all-tried, any-more, any-within, follows-itself, follows-more, none-more, one-more, one-within, retry-more}
 use Rattle.sql_value.proofs.pattern.fits.Goals as goal
 
 pub loop-i-preserved-then-any_at : goal.loop-i-preserved-then-any_at
 loop-i-preserved-then-any_at c =
     let inv = c.loop-i.invariant in
-    let p = c.args.pattern.now in
-    let t = c.args.text.now in
+    let p = listed c.args.pattern in
+    let t = listed c.args.text in
     let any = sym c.any_at.ensures ∙ c.if-any_at.true in
     record {
       whole = any-more p t c.loop-i.i c.loop-i.j c.loop-i.retry inv.whole inv.follows any;
@@ -18,12 +18,12 @@ loop-i-preserved-then-any_at c =
 pub loop-i-preserved-then-one_at : goal.loop-i-preserved-then-one_at
 loop-i-preserved-then-one_at c =
     let inv = c.loop-i.invariant in
-    let p = c.args.pattern.now in
-    let t = c.args.text.now in
+    let p = listed c.args.pattern in
+    let t = listed c.args.text in
     let one = sym c.one_at.ensures ∙ c.if-one_at.true in
-    let sign = c.index-text-i.result in
+    let sign = c.at.result in
     record {
-      whole = one-more p t c.loop-i.i c.loop-i.j sign sign c.loop-i.retry c.loop-i-test.true c.index-text-i.is inv.whole one;
+      whole = one-more p t c.loop-i.i c.loop-i.j sign 0 c.loop-i.retry (rw c.len.ensures at c.loop-i-test.true) c.at.ensures inv.whole one;
       follows = follows-more p t c.loop-i.i c.loop-i.j sign c.loop-i.retry one inv.follows;
       within = one-within p c.loop-i.j sign one;
     }
@@ -31,10 +31,10 @@ loop-i-preserved-then-one_at c =
 pub loop-i-preserved : goal.loop-i-preserved
 loop-i-preserved c =
     let inv = c.loop-i.invariant in
-    let p = c.args.pattern.now in
-    let t = c.args.text.now in
-    let sign = c.index-text-i.result in
-    let none = none-more p t c.loop-i.i c.loop-i.j sign sign c.loop-i.retry c.loop-i-test.true c.index-text-i.is inv.whole (sym c.any_at.ensures ∙ c.if-any_at.false) (sym c.one_at.ensures ∙ c.if-one_at.false) in
+    let p = listed c.args.pattern in
+    let t = listed c.args.text in
+    let sign = c.at.result in
+    let none = none-more p t c.loop-i.i c.loop-i.j sign 0 c.loop-i.retry (rw c.len.ensures at c.loop-i-test.true) c.at.ensures inv.whole (sym c.any_at.ensures ∙ c.if-any_at.false) (sym c.one_at.ensures ∙ c.if-one_at.false) in
     let low = (rw c.in-Some.is at inv.follows).0 in
     record {
       whole = rw c.in-Some.is at none ∙ retry-more p t c.in-Some.start c.in-Some.after;
@@ -45,5 +45,4 @@ loop-i-preserved c =
 pub returns : goal.returns
 returns c =
     let inv = c.loop-i.invariant in
-    let all = take_rest c.args.pattern.now c.loop-i.j in
-    c.fits_nothing.ensures ∙ rw all (sym (all-tried c.args.pattern.now c.args.text.now c.loop-i.i c.loop-i.j c.loop-i.retry c.loop-i-test.false inv.whole inv.follows))
+    c.fits_nothing.ensures ∙ sym (all-tried (listed c.args.pattern) (listed c.args.text) c.loop-i.i c.loop-i.j c.loop-i.retry (rw c.len.ensures at c.loop-i-test.false) inv.whole inv.follows)

@@ -1,6 +1,7 @@
 use Rattle.std.proofs.Common.{◌≡◌, [], drop}
+use Rattle.sql_value.specs.Characters.{listed}
 use Rattle.sql_value.specs.Like.{fits}
 use Rattle.sql_value.proofs.pattern.fits_nothing.Given as goal
 
-abbrev pub invariant-loop-sign : goal.invariant-loop-sign
-invariant-loop-sign l = fits l.pattern [] ≡ fits (drop l.sign-index l.pattern) []
+abbrev pub invariant-loop-i : goal.invariant-loop-i
+invariant-loop-i l = fits (drop l.place (listed l.pattern)) [] ≡ fits (drop l.i (listed l.pattern)) []
