@@ -1,5 +1,4 @@
 pub mod First
-pub mod Enclosed
 pub mod Fresh
 pub mod Ascending
 pub mod Changed
@@ -13,6 +12,7 @@ pub mod Shifts
 pub mod Held
 pub mod ByNumber
 pub mod Spliced
+pub mod Told
 pub mod Owning
 pub mod KindTests
 pub mod PutOnce

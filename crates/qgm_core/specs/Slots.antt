@@ -1,11 +1,12 @@
 -- The slots of boxes: a box's number is its slot.
-use Rattle.std.specs.Prelude.{ℕ, ◌≡◌, ◌<◌, ◌+◌, ◌&&◌, nat_lt, if◌then◌else◌, Bool, true, false, List, [], ◌∷◌, Option, Some, None, length, slice_index_or}
-use Rattle.std.specs.List.{list_all, list_any}
-use Rattle.qgm_core.specs.Boxes.{numbers, overs_in, owns}
-use Rattle.qgm_core.specs.Free.{free_in, named_by, reached}
+use Rattle.std.specs.Prelude.{ℕ, ◌≡◌, ◌<◌, ◌+◌, ◌++◌, ◌&&◌, nat_lt, if◌then◌else◌, Bool, true, false, not, List, [], ◌∷◌, Option, Some, None, filter, length, slice_index_or}
+use Rattle.std.specs.List.{flat_map, list_all, list_any}
+use Rattle.qgm_core.specs.Boxes.{ids_of, numbers, overs_in}
+use Rattle.qgm_core.specs.Free.{free_in, named_by, put_each, reached}
 use Rattle.qgm_core.specs.Numbered.{Numbered}
 use Rattle.list_laws.specs.Lists.{holds, times}
 use Rattle.qgm_core.specs.declared.node.Node.{Node}
+use Rattle.qgm_core.specs.declared.owned.OwnedQuant.{OwnedQuant}
 
 -- by slot, how many quantifiers range over the box, and its free quantifiers where they are kept; and the slots that no box has
 pub record SlotTable : Type 0 where
@@ -76,20 +77,34 @@ abbrev pub stale_in : SlotTable → List Node → ℕ
 stale_in t [] = 0
 stale_in t (n ∷ ns) = (if is_stale (kept n.id t) then 1 else 0) + stale_in t ns
 
--- an empty list is kept
-abbrev pub keeps_none : Option (List ℕ) → Bool
-keeps_none None = false
-keeps_none (Some []) = true
-keeps_none (Some (q ∷ qs)) = false
-
--- a box ranges over marked boxes of which an empty list is kept, and names its own quantifiers alone
-abbrev pub is_enclosed : SlotTable → List ℕ → Node → Bool
-is_enclosed t marks n = list_all (λ r. holds r.over marks && keeps_none (kept r.over t)) n.quants && list_all (λ q. owns q n) (named_by n)
-
 -- the list that is kept, else this one
 abbrev pub list_or : List ℕ → Option (List ℕ) → List ℕ
 list_or qs None = qs
 list_or qs (Some rs) = rs
+
+-- a quantifier ranges over a marked box whose list is kept
+abbrev pub is_kept_behind : SlotTable → List ℕ → OwnedQuant → Bool
+is_kept_behind t behind r = holds r.over behind && not (is_stale (kept r.over t))
+
+-- what a box names, and what is kept as free in those under it
+abbrev pub told_names : SlotTable → Node → List ℕ
+told_names t n = named_by n ++ flat_map (λ r. list_or [] (kept r.over t)) n.quants
+
+-- a box ranges over marked boxes whose lists are kept, and these quantifiers aren't among the names
+abbrev pub is_told : SlotTable → List ℕ → List ℕ → Node → Bool
+is_told t behind owned n = list_all (is_kept_behind t behind) n.quants && not (list_any (λ q. holds q owned) (told_names t n))
+
+-- these names, ascending, each once, without those that the box owns
+abbrev pub told : SlotTable → Node → List ℕ
+told t n = put_each [] (filter (λ q. not (holds q (ids_of n))) (told_names t n))
+
+-- a box is marked too, where those that it ranges over are
+abbrev pub behind_with : Node → List ℕ → List ℕ
+behind_with n behind = if list_all (λ r. holds r.over behind) n.quants then behind ++ n.id ∷ [] else behind
+
+-- and its quantifiers are
+abbrev pub owned_with : Node → List ℕ → List ℕ → List ℕ
+owned_with n behind owned = if list_all (λ r. holds r.over behind) n.quants then owned ++ ids_of n else owned
 
 -- no slot is another, and no list is lost
 abbrev pub Refreshed : SlotTable → SlotTable → Type 0

@@ -103,7 +103,11 @@ fn put_once(out: &mut Vec<QuantId>, q: QuantId) -> Result<(), OutOfMemory>
 }
 
 // Those that aren't owned, ascending, each once.
-fn not_owned(alloc: Global, names: &[QuantId], owned: &Marks) -> Result<Vec<QuantId>, OutOfMemory>
+pub fn not_owned(
+    alloc: Global,
+    names: &[QuantId],
+    owned: &Marks,
+) -> Result<Vec<QuantId>, OutOfMemory>
     ensures { IfOk result (λ free. free.items ≡ spec.put_each [] (filter (λ q. not (holds q owned.now)) names.now)) }
 {
     let mut free = Vec::new(alloc);

@@ -294,10 +294,19 @@ impl Graph {
         self.slots.refresh(alloc, &self.nodes, steps)
     }
 
+    /// What is free in the box, where it is kept.
+    pub fn kept_free(&self, b: BoxId) -> Option<&[QuantId]>
+        ensures { IfSome result (λ qs. qs.now ≡ free b self.now) }
+    {
+        match self.slots.kept(b) {
+            Some(qs) => Some(qs.as_slice()),
+            None => None,
+        }
+    }
+
     /// The quantifiers that are named in the box or below it, and owned neither there nor below, in
-    /// ascending order.
+    /// ascending order. Nothing is free in a box that the graph hasn't.
     pub fn free(&self, alloc: Global, b: BoxId) -> Result<Vec<QuantId>, OutOfMemory>
-        requires { spec.HasBox b self.now }
         ensures { IfOk result (λ qs. qs.items ≡ free b self.now) }
     {
         match self.slots.kept(b) {
@@ -308,7 +317,6 @@ impl Graph {
 
     /// Whether no quantifier is free in the box.
     pub fn is_closed(&self, alloc: Global, b: BoxId) -> Result<bool, OutOfMemory>
-        requires { spec.HasBox b self.now }
         ensures { IfOk result (λ closed. IsTrue closed ↔ (free b self.now ≡ [])) }
     {
         if let Some(qs) = self.slots.kept(b) {

@@ -1,18 +1,18 @@
 // The slots of boxes: a box's number is its slot.
-ghost use Rattle.std.specs.Prelude.{◌≡◌, ◌==◌, ◌&&◌, false, true, if◌then◌else◌, ◌<◌, ◌≤◌, ◌+◌, ◌++◌, ◌∷◌, [], ℕ, List, Some, None, length, map, filter, not, option_map, replicate, slice_get, slice_index_or, OnOk, OnErr, IfOk};
-ghost use Rattle.std.specs.List.{list_all};
-ghost use Rattle.qgm_core.specs.Boxes.{ids_in, numbers, overs_in, owns};
-ghost use Rattle.qgm_core.specs.Free.{free_in, named_by};
+ghost use Rattle.std.specs.Prelude.{◌≡◌, ◌==◌, false, true, if◌then◌else◌, ◌<◌, ◌≤◌, ◌+◌, ◌++◌, ◌∷◌, [], ℕ, List, Some, None, length, map, filter, not, option_map, replicate, slice_get, slice_index_or, OnOk, OnErr, IfOk, IfSome};
+ghost use Rattle.std.specs.List.{flat_map, list_all, list_any};
+ghost use Rattle.qgm_core.specs.Boxes.{ids_in, ids_of, numbers, overs_in};
+ghost use Rattle.qgm_core.specs.Free.{free_in, put_each};
 ghost use Rattle.qgm_core.specs.Numbered.{Under};
 ghost use Rattle.qgm_core.specs.Slots as spec;
 ghost use Rattle.list_laws.specs.Lists.{EachOnce, holds, times};
 
 use crate::flags::{drop_flagged, flag_reaching, flag_unmarked, spread};
-use crate::free::{add_names_of_node, free_in};
+use crate::free::{add_names_of_node, free_in, not_owned};
 use crate::kinds::BoxId;
-use crate::marks::Marks;
+use crate::marks::{Marks, mark_ids};
 use crate::node::Node;
-use crate::owned::{OwnedQuant, has_range};
+use crate::owned::OwnedQuant;
 use crate::uses::{add_use, drop_use, recount, uses_in};
 use qgm_terms::QuantId;
 use shared_types::OutOfMemory;
@@ -173,37 +173,64 @@ impl Slots {
         drop_flagged(&mut self.lists, &self.flags);
     }
 
-    // Whether an empty list of a box is kept.
-    fn keeps_none(&self, b: BoxId) -> bool
-        ensures { result ≡ spec.keeps_none (spec.kept b self.now) }
-    {
-        match self.kept(b) {
-            Some(list) => list.as_slice().is_empty(),
-            None => false,
-        }
-    }
-
-    // Whether quantifiers range over marked boxes of which an empty list is kept.
-    fn keep_none(&self, ranges: &[OwnedQuant], marks: &Marks) -> bool
-        ensures { result ≡ list_all (λ r. holds r.over marks.now && spec.keeps_none (spec.kept r.over self.now)) ranges.now }
+    // Appends the lists that are kept of the boxes that these quantifiers range over, and says whether each
+    // is marked and its list is kept.
+    fn add_kept(
+        &self,
+        ranges: &[OwnedQuant],
+        behind: &Marks,
+        out: &mut Vec<QuantId>,
+    ) -> Result<bool, OutOfMemory>
+        ensures marked { IfOk result (λ all. all ≡ true → list_all (λ r. spec.is_kept_behind self.now behind.now r) ranges.now ≡ true) }
+        ensures names { IfOk result (λ all. all ≡ true → out.new.items ≡ out.old.items ++ flat_map (λ r. spec.list_or [] (spec.kept r.over self.now)) ranges.now) }
     {
         for r in ranges {
-            if !marks.has(r.over) || !self.keeps_none(r.over) {
-                return false;
+            if !behind.has(r.over) {
+                return Ok(false);
+            }
+            match self.kept(r.over) {
+                Some(list) => out.extend_from_slice(list.as_slice())?,
+                None => return Ok(false),
             }
         }
-        true
+        Ok(true)
     }
 
-    // Whether a box without a list ranges over marked boxes of which an empty list is kept, and names its
-    // own quantifiers alone.
-    fn is_enclosed(&self, alloc: Global, node: &Node, marks: &Marks) -> Result<bool, OutOfMemory>
-        ensures { IfOk result (λ e. e ≡ true → spec.is_enclosed self.now marks.now node.now ≡ true) }
+    // What is free in a box, where what it names and the lists that are kept under it tell this.
+    fn told(
+        &self,
+        alloc: Global,
+        node: &Node,
+        behind: &Marks,
+        owned: &Marks,
+    ) -> Result<Option<Vec<QuantId>>, OutOfMemory>
+        ensures told { IfOk result (λ o. IfSome o (λ qs. spec.is_told self.now behind.now owned.now node.now ≡ true)) }
+        ensures free { IfOk result (λ o. IfSome o (λ qs. qs.items ≡ spec.told self.now node.now)) }
     {
-        if self.kept(node.id).is_some() || !self.keep_none(node.quants.as_slice(), marks) {
-            return Ok(false);
+        let mut names = Vec::new(alloc);
+        add_names_of_node(node, &mut names)?;
+        let all = self.add_kept(node.quants.as_slice(), behind, &mut names)?;
+        if !all || has_marked(owned, &names) {
+            return Ok(None);
         }
-        names_own(alloc, node)
+        Ok(Some(less_own(alloc, &names, node)?))
+    }
+
+    // The same for a box whose list is stale.
+    fn told_stale(
+        &self,
+        alloc: Global,
+        node: &Node,
+        behind: &Marks,
+        owned: &Marks,
+    ) -> Result<Option<Vec<QuantId>>, OutOfMemory>
+        ensures told { IfOk result (λ o. IfSome o (λ qs. spec.is_told self.now behind.now owned.now node.now ≡ true)) }
+        ensures free { IfOk result (λ o. IfSome o (λ qs. qs.items ≡ spec.told self.now node.now)) }
+    {
+        if self.kept(node.id).is_some() {
+            return Ok(None);
+        }
+        self.told(alloc, node, behind, owned)
     }
 
     /// Computes the stale lists of these boxes, by rank from the last, and adds a step for each that is
@@ -224,28 +251,29 @@ impl Slots {
         ensures counted { steps.new + spec.stale_in self.new nodes.now ≡ steps.old + spec.stale_in self.old nodes.now }
     {
         let mut behind = Marks::new(alloc);
+        let mut owned = Marks::new(alloc);
         let mut i = nodes.len();
         'boxes: while i > 0 {
             i -= 1;
             let node = &nodes[i];
-            let closed = self.is_enclosed(alloc, node, &behind)?;
-            behind.push(node.id)?;
-            self.refresh_box(alloc, nodes, node.id, closed, steps)?;
+            let told = self.told_stale(alloc, node, &behind, &owned)?;
+            pass(node, &mut behind, &mut owned)?;
+            self.refresh_box(alloc, nodes, node.id, told, steps)?;
         }
         Ok(())
     }
 
-    // Computes the list of a box, if it is stale; an empty one where nothing is known to be free.
+    // Computes the list of a box, if it is stale; it is this one, where one is told.
     fn refresh_box<L: Ledger>(
         &mut self,
         alloc: Global,
         nodes: &[Node],
         b: BoxId,
-        closed: bool,
+        told: Option<Vec<QuantId>>,
         steps: &mut Steps<L>,
     ) -> Result<(), OutOfMemory>
         requires within { b < length self.old.lists }
-        requires closed { closed ≡ true → free_in nodes.now b ≡ [] }
+        requires told { IfSome told (λ qs. free_in nodes.now b ≡ qs.items) }
         ensures rest { spec.Refreshed self.old self.new }
         ensures others { (x : ℕ) → (b == x) ≡ false → spec.kept x self.new ≡ spec.kept x self.old }
         ensures ok { OnOk result (spec.kept b self.new ≡ Some (spec.list_or (free_in nodes.now b) (spec.kept b self.old))) }
@@ -256,10 +284,9 @@ impl Slots {
         if self.lists[b].is_some() {
             return Ok(());
         }
-        let qs = if closed {
-            Vec::new(alloc)
-        } else {
-            free_in(alloc, nodes, b)?
+        let qs = match told {
+            Some(qs) => qs,
+            None => free_in(alloc, nodes, b)?,
         };
         self.lists[b] = Some(Items::from_vec(qs));
         steps.tick();
@@ -328,18 +355,49 @@ impl Slots {
     }
 }
 
-// Whether a box names its own quantifiers alone.
-fn names_own(alloc: Global, node: &Node) -> Result<bool, OutOfMemory>
-    ensures { IfOk result (λ o. o ≡ list_all (λ q. owns q node.now) (named_by node.now)) }
+// Whether one of these is marked.
+fn has_marked(marks: &Marks, qs: &[QuantId]) -> bool
+    ensures { result ≡ list_any (λ q. holds q marks.now) qs.now }
 {
-    let mut names = Vec::new(alloc);
-    add_names_of_node(node, &mut names)?;
-    for q in &names {
-        if !has_range(node.quants.as_slice(), *q) {
-            return Ok(false);
+    for q in qs {
+        if marks.has(*q) {
+            return true;
         }
     }
-    Ok(true)
+    false
+}
+
+// Those of these that a box doesn't own, ascending, each once.
+fn less_own(alloc: Global, names: &[QuantId], node: &Node) -> Result<Vec<QuantId>, OutOfMemory>
+    ensures { IfOk result (λ qs. qs.items ≡ put_each [] (filter (λ q. not (holds q (ids_of node.now))) names.now)) }
+{
+    let mut own = Marks::new(alloc);
+    mark_ids(node.quants.as_slice(), &mut own)?;
+    not_owned(alloc, names, &own)
+}
+
+// Whether the boxes that these quantifiers range over are marked.
+fn are_marked(ranges: &[OwnedQuant], marks: &Marks) -> bool
+    ensures { result ≡ list_all (λ r. holds r.over marks.now) ranges.now }
+{
+    for r in ranges {
+        if !marks.has(r.over) {
+            return false;
+        }
+    }
+    true
+}
+
+// Marks a box and its quantifiers, if the boxes that they range over are marked.
+fn pass(node: &Node, behind: &mut Marks, owned: &mut Marks) -> Result<(), OutOfMemory>
+    ensures behind { OnOk result (behind.new ≡ spec.behind_with node.now behind.old) }
+    ensures owned { OnOk result (owned.new ≡ spec.owned_with node.now behind.old owned.old) }
+{
+    if are_marked(node.quants.as_slice(), behind) {
+        behind.push(node.id)?;
+        mark_ids(node.quants.as_slice(), owned)?;
+    }
+    Ok(())
 }
 
 // A copy of a list, if it is kept.

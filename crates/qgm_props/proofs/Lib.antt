@@ -36,4 +36,3 @@ pub mod Lowering
 pub mod NeverNegative
 pub mod MeasureLaws
 pub mod SettledFacts
-pub mod FreeTables

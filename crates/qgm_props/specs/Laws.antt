@@ -27,7 +27,6 @@ use Rattle.qgm_props.specs.Inferred.{Fact, Facts, Inferred, at_most_one, clean, 
 use Rattle.qgm_props.specs.InferredKeys.{KeyAmong}
 use Rattle.qgm_props.specs.Keys.{holds_key}
 use Rattle.qgm_props.specs.Table.{facts_of}
-use Rattle.qgm_props.specs.FreeTables.{TellsFree}
 use Rattle.qgm_props.specs.declared.facts.BoxFacts.{BoxFacts}
 
 -- over tables that satisfy the bases, in boxes by rank
@@ -71,14 +70,13 @@ KeysExact = (single : ℕ → Bool) (boxes : List Node) → Ordered boxes → (b
 abbrev pub Tells : Facts → List Node → Type 0
 Tells known ns = (fact : Fact) → (says known fact ≡ true) ↔ Inferred ns fact
 
--- what is kept of a graph, if anything: what is inferred of its boxes, and what is free in them
+-- what is kept of a graph, if anything: what is inferred of its boxes
 pub record Kept : Type 0 where
   pub facts : Option (List BoxFacts)
-  pub free : Option (List (List ℕ))
 
--- what is kept, if anything, is what is inferred of these boxes, and what is free in them
+-- what is kept, if anything, is what is inferred of these boxes
 abbrev pub KeptOf : Kept → List Node → Type 0
-KeptOf kept ns = IfSome kept.facts (λ table. Tells (facts_of table) ns) × IfSome kept.free (λ table. TellsFree table ns)
+KeptOf kept ns = IfSome kept.facts (λ table. Tells (facts_of table) ns)
 
 -- there are such facts
 abbrev pub AllTold : Type 0

@@ -6,7 +6,6 @@ pub mod InferredKeys
 pub mod Calm
 pub mod Lists
 pub mod Table
-pub mod FreeTables
 pub mod Holding
 pub mod Laws
 pub mod Examples

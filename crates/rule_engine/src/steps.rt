@@ -1,5 +1,5 @@
 // A step, and a whole rewriting.
-ghost use Rattle.std.specs.Prelude.{◌≡◌, IfOk, OnErr};
+ghost use Rattle.std.specs.Prelude.{◌≡◌, ◌<◌, IfOk, OnErr};
 ghost use Rattle.qgm_wellformed.specs.Sentences.{WellFormed};
 ghost use Rattle.rule_engine.specs.Trace.{Stepped, Traces, TracesEach};
 
@@ -11,10 +11,41 @@ use rule_api::Firing;
 use rule_plan::Plan;
 use shared_types::OutOfMemory;
 use std::alloc::Global;
+use std::marker::Brand;
+use std::sync::ledger::{Blank, Ledger};
+use step_count::Steps;
 
-/// Fires once, `count` having fired before, or not where there is no candidate. Where there is no
-/// memory it fails, and the graph is as before.
+/// Fires once, `count` having fired before, or not where there is no candidate. What is free in each box
+/// is computed first, where the graph doesn't keep it. Where there is no memory it fails, and the graph
+/// is as before.
 pub fn step<T: Rules>(
+    alloc: Global,
+    table: &T,
+    graph: &mut Graph,
+    plan: &Plan,
+    count: u64,
+) -> Result<Option<Firing>, OutOfMemory>
+    requires { WellFormed graph.old }
+    ensures ok { IfOk result (λ f. Stepped (T.pairs table.now) (T.may table.now) (T.act table.now) plan.now count graph.old f graph.new) }
+    ensures err { OnErr result (graph.new ≡ graph.old) }
+{
+    refresh::<Brand>(alloc, graph, Blank::new(1))?;
+    fire(alloc, table, graph, plan, count)
+}
+
+// Computes what is free in boxes, where the graph doesn't keep it.
+fn refresh<L: Ledger>(alloc: Global, graph: &mut Graph, blank: Blank) -> Result<(), OutOfMemory>
+    requires name { blank.name ≡ L.name }
+    requires parts { blank.parts ≡ L.parts }
+    requires some { 0 < blank.parts }
+    ensures { graph.new ≡ graph.old }
+{
+    let mut steps = Steps::<L>::new(blank);
+    graph.refresh(alloc, &mut steps)
+}
+
+// Fires the candidate that is next, if there is one.
+fn fire<T: Rules>(
     alloc: Global,
     table: &T,
     graph: &mut Graph,

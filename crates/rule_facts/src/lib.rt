@@ -3,11 +3,13 @@
 #![tactic(auto)]
 
 mod boxes;
+mod closed;
 mod fed;
 mod laws;
 mod told;
 
 pub use boxes::box_at;
+pub use closed::is_closed;
 pub use fed::{any_fed, any_fed_closed};
 pub use laws::premise_laws;
 pub use told::infers_clean;

@@ -1,19 +1,15 @@
 -- What the code of G1's condition asks is the condition.
-use Rattle.std.proofs.Common.{ℕ, zero, suc, ◌≡◌, ◌<◌, ◌+◌, ◌-◌, ◌==◌, ◌&&◌, ◌||◌, cond, nat_le, not, Bool, true, false, List, [], ◌∷◌, refl, sym, ap, ap₂, length, subst, ◌∙◌, inl, inr, arith}
+use Rattle.std.proofs.Common.{ℕ, zero, suc, ◌≡◌, ◌<◌, ◌+◌, ◌-◌, ◌&&◌, ◌||◌, cond, nat_le, not, Bool, true, false, List, [], ◌∷◌, refl, sym, ap, length, subst, ◌∙◌, inl, inr, arith}
 use Rattle.std.specs.List.{list_all}
 use Rattle.std.proofs.lemmas.Bool.{and_from, and_parts, cases_Bool, or_right}
-use Rattle.std.proofs.Math.Dec.{eqb-suc-zero}
 use Rattle.qgm_core.specs.Free.{free_in}
 use Rattle.qgm_core.specs.Kinds.{is_F}
 use Rattle.list_laws.specs.Lists.{holds}
-use Rattle.list_laws.proofs.Booleans.{same-truth}
 use Rattle.qgm_core.specs.declared.node.Node.{Node}
 use Rattle.qgm_core.specs.declared.owned.OwnedQuant.{OwnedQuant}
-use Rattle.qgm_props.specs.FreeTables.{TellsFree, free_of}
 use Rattle.qgm_props.specs.Inferred.{Facts}
 use Rattle.qgm_props.specs.Under.{all_places}
 use Rattle.qgm_wellformed.specs.WellFormed.{is_empty}
-use Rattle.qgm_wellformed.proofs.Kept.{empty-none, none-empty}
 use Rattle.rule_facts.specs.Places.{is_plain_select}
 use Rattle.rule_feed.specs.FeedCode as code
 use Rattle.rule_feed.specs.FeedCode.{all_ready, feeds_by, fs, may_grow}
@@ -39,35 +35,10 @@ may-feed ns n r = elim (is_empty (free_in ns r.over)) as (λ t. code.told_if t (
   | false ↦ ap (λ b. is_single ns (facts_in ns) r.over r && b) (all-ready ns (facts_in ns) r.over n.quants)
 ]
 
--- ---- what is free, by the table of it
+-- ---- by the code
 
-empty-len : (xs : List ℕ) → (length xs == 0) ≡ is_empty xs
-empty-len [] = refl
-empty-len (x ∷ xs) = let e : length (x ∷ xs) ≡ suc (length xs) = refl in ap (λ n. n == 0) e ∙ never (length xs)
-  where
-    never : (n : ℕ) → (suc n == 0) ≡ false
-    never n = eqb-suc-zero n
-
--- that nothing stands in a table at a box
-pub closed-by : (table : List (List ℕ)) (b : ℕ) (xs : List ℕ) → xs ≡ free_of table b → (length xs == 0) ≡ is_empty (free_of table b)
-closed-by table b xs e = empty-len xs ∙ ap is_empty e
-
-pub closed-same : (table : List (List ℕ)) (ns : List Node) → TellsFree table ns → (b : ℕ) → is_empty (free_of table b) ≡ is_empty (free_in ns b)
-closed-same table ns t b = same-truth (is_empty (free_of table b)) (is_empty (free_in ns b))
-    (λ e. none-empty (free_in ns b) (λ q h. empty-none (free_of table b) e q (t b q ∙ h)))
-    (λ e. none-empty (free_of table b) (λ q h. empty-none (free_in ns b) e q (sym (t b q) ∙ h)))
-
--- a list of the same numbers tells the same
-pub ready-same : (ns : List Node) (known : Facts) (c : ℕ) (xs ys : List ℕ) → ((q : ℕ) → holds q xs ≡ holds q ys) → (rs : List OwnedQuant) → all_ready ns known c xs rs ≡ all_ready ns known c ys rs
-ready-same ns known c xs ys h [] = refl
-ready-same ns known c xs ys h (r ∷ rs) = ap₂ (λ (a b : Bool). (not (is_F r.kind && a) || is_ready ns known c r) && b) (h r.id) (ready-same ns known c xs ys h rs)
-
--- what the code asks of the table is what is asked of the graph
-pub told-same : (table : List (List ℕ)) (ns : List Node) → TellsFree table ns → (qs : List OwnedQuant) (r : OwnedQuant) → code.told ns qs r (free_of table r.over) ≡ code.told ns qs r (free_in ns r.over)
-told-same table ns t qs r = ap (λ b. is_single [] (facts_in ns) r.over r && b) (ready-same ns (facts_in ns) r.over (free_of table r.over) (free_in ns r.over) (t r.over) qs)
-
-pub may-feed-by : (table : List (List ℕ)) (ns : List Node) → TellsFree table ns → (qs : List OwnedQuant) (r : OwnedQuant) → is_empty (free_in ns r.over) ≡ false → code.told ns qs r (free_of table r.over) ≡ code.may_feed ns qs r
-may-feed-by table ns t qs r e = told-same table ns t qs r ∙ sym (ap (λ b. code.told_if b (code.told ns qs r (free_in ns r.over))) e)
+pub may-feed-by : (ns : List Node) (qs : List OwnedQuant) (r : OwnedQuant) → is_empty (free_in ns r.over) ≡ false → code.told ns qs r (free_in ns r.over) ≡ code.may_feed ns qs r
+may-feed-by ns qs r e = sym (ap (λ b. code.told_if b (code.told ns qs r (free_in ns r.over))) e)
 
 pub not-open : (ns : List Node) (qs : List OwnedQuant) (r : OwnedQuant) → is_empty (free_in ns r.over) ≡ true → false ≡ code.may_feed ns qs r
 not-open ns qs r e = sym (ap (λ b. code.told_if b (code.told ns qs r (free_in ns r.over))) e)

@@ -1,6 +1,5 @@
 // G1.
 ghost use Rattle.std.specs.Prelude.{◌≡◌, map, true, IfOk};
-ghost use Rattle.qgm_props.specs.FreeTables.{TellsFree};
 ghost use Rattle.qgm_props.specs.Laws.{KeptOf};
 ghost use Rattle.rule_api.specs.Picks.{picks};
 ghost use Rattle.rule_api.specs.Rules.{place_at};
@@ -20,11 +19,11 @@ mod split;
 mod terms;
 
 use crate::feed::action::fed_at;
-use crate::feed::condition::{fs_of, is_closed, may_feed, may_grow};
+use crate::feed::condition::{fs_of, may_feed, may_grow};
 use qgm_core::{BoxId, Graph, Node};
-use qgm_props::{FreeTable, Inference};
+use qgm_props::Inference;
 use rule_api::{Place, Rule, RuleId, add_if};
-use rule_facts::box_at;
+use rule_facts::{box_at, is_closed};
 use shared_types::OutOfMemory;
 use std::alloc::Global;
 
@@ -39,24 +38,22 @@ fn places_in(
     alloc: Global,
     graph: &Graph,
     known: &mut Inference,
-    free: &FreeTable,
     node: &Node,
     b: BoxId,
 ) -> Result<Vec<Place>, OutOfMemory>
     requires known { KeptOf known.old graph.now.boxes }
-    requires free { TellsFree free.now graph.now.boxes }
     requires grow { may_grow graph.now.boxes node.now ≡ true }
     ensures list { IfOk result (λ v. v.items ≡ map (place_at b) (picks (may_fire graph.now.boxes node.now) 1 node.now.quants)) }
     ensures known { KeptOf known.new graph.now.boxes }
 {
     let mut out = Vec::new(alloc);
-    if !is_closed(free, node.id) {
+    if !is_closed(alloc, graph, node.id)? {
         return Ok(out);
     }
     let list = node.quants.as_slice();
     let fs = fs_of(alloc, list)?;
     for k in 0..list.len() {
-        let passes = may_feed(alloc, graph, known, free, &fs, list[k])?;
+        let passes = may_feed(alloc, graph, known, &fs, list[k])?;
         add_if(&mut out, passes, b, k + 1, 0)?;
     }
     Ok(out)
@@ -92,10 +89,7 @@ impl Rule for Feed {
         if !may_grow(graph.nodes(), node) {
             return Ok(Vec::new(alloc));
         }
-        let free = known.take_free(alloc, graph)?;
-        let places = places_in(alloc, graph, known, &free, node, b)?;
-        known.put_free(free);
-        Ok(places)
+        places_in(alloc, graph, known, node, b)
     }
 
     fn apply(&self, alloc: Global, graph: &mut Graph, place: Place) -> Result<(), OutOfMemory> {

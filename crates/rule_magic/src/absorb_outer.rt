@@ -16,8 +16,8 @@ use crate::fed::{fed_at, is_ready, is_small};
 use crate::operands::operands_of;
 use qgm_core::{BoxId, BoxKind, Graph};
 use qgm_props::Inference;
-use qgm_wellformed::is_closed;
 use rule_api::{Place, Rule, RuleId, add_if};
+use rule_facts::is_closed;
 use shared_types::OutOfMemory;
 use std::alloc::Global;
 
@@ -70,7 +70,7 @@ fn absorbed_at(alloc: Global, graph: &Graph, place: Place) -> Result<Graph, OutO
     let Some(operands) = operands_of(graph, fed.c) else {
         unreachable!()
     };
-    let closed = is_closed(alloc, graph.nodes(), operands.y.id)?;
+    let closed = is_closed(alloc, graph, operands.y.id)?;
     if closed {
         left_outer(alloc, graph, &fed, &operands)
     } else {

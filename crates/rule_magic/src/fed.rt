@@ -10,8 +10,7 @@ ghost use Rattle.rule_magic.specs.Feeding as spec;
 use qgm_core::{BoxId, BoxKind, Graph, Node, OwnedQuant};
 use qgm_props::{Inference, Props};
 use qgm_terms::both;
-use qgm_wellformed::is_closed;
-use rule_facts::box_at;
+use rule_facts::{box_at, is_closed};
 use shared_types::OutOfMemory;
 use std::alloc::Global;
 
@@ -117,8 +116,8 @@ pub fn is_ready(
     if !is_faultless(alloc, graph, known, fed.m)? {
         return Ok(false);
     }
-    let closed = is_closed(alloc, graph.nodes(), fed.m.id)?;
-    let open = !is_closed(alloc, graph.nodes(), fed.c.id)?;
+    let closed = is_closed(alloc, graph, fed.m.id)?;
+    let open = !is_closed(alloc, graph, fed.c.id)?;
     Ok(closed && open)
 }
 

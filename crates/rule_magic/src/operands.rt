@@ -6,8 +6,7 @@ ghost use Rattle.rule_magic.specs.AbsorbArms.{role_over};
 ghost use Rattle.rule_magic.specs.Operands as spec;
 
 use qgm_core::{BoxId, Graph, Node, OwnedQuant, Role};
-use qgm_wellformed::is_closed;
-use rule_facts::box_at;
+use rule_facts::{box_at, is_closed};
 use shared_types::OutOfMemory;
 use std::alloc::Global;
 
@@ -45,6 +44,6 @@ pub fn operands_of<'a>(graph: &'a Graph, c: &'a Node) -> Option<Operands<'a>>
 pub fn role_over(alloc: Global, graph: &Graph, b: BoxId) -> Result<Role, OutOfMemory>
     ensures { IfOk result (λ role. role ≡ role_over graph.now.boxes b) }
 {
-    let closed = is_closed(alloc, graph.nodes(), b)?;
+    let closed = is_closed(alloc, graph, b)?;
     Ok(if closed { Role::Plain } else { Role::Fed })
 }

@@ -1,24 +1,20 @@
 // Where G1 may fire.
-ghost use Rattle.std.specs.Prelude.{◌≡◌, ◌&&◌, [], IfOk, List};
+ghost use Rattle.std.specs.Prelude.{◌≡◌, ◌&&◌, [], IfOk};
 ghost use Rattle.qgm_core.specs.Boxes.{width};
-ghost use Rattle.qgm_core.specs.Free.{free_in};
 ghost use Rattle.qgm_edit_laws.specs.Graph.{reads_in};
-ghost use Rattle.qgm_core.specs.declared.node.Node.{Node};
-ghost use Rattle.qgm_props.specs.FreeTables.{TellsFree, free_of};
 ghost use Rattle.qgm_props.specs.Laws.{KeptOf};
 ghost use Rattle.qgm_props.specs.Table.{facts_of};
 ghost use Rattle.qgm_props.specs.Under.{all_places};
-ghost use Rattle.qgm_wellformed.specs.WellFormed.{is_empty};
 ghost use Rattle.rule_feed.specs.FeedMay as spec;
 ghost use Rattle.rule_feed.specs.FeedCode as code;
 ghost use Rattle.list_laws.specs.Lists.{EachOnce};
 ghost use Rattle.qgm_core.specs.Boxes.{numbers};
 
 use qgm_core::{BoxId, BoxKind, Graph, Marks, Node, OwnedQuant, QuantId, reached};
-use qgm_props::{FreeTable, Inference, Props};
+use qgm_props::{Inference, Props};
 use qgm_term_search::{stands_in_cells, stands_in_conds};
 use qgm_terms::Sought;
-use rule_facts::box_at;
+use rule_facts::{box_at, is_closed};
 use shared_types::OutOfMemory;
 use std::alloc::Global;
 
@@ -45,13 +41,6 @@ pub fn width_of(nodes: &[Node], b: BoxId) -> usize
         Some(node) => width(node),
         None => 0,
     }
-}
-
-/// Whether nothing is free in a box.
-pub fn is_closed(table: &FreeTable, b: BoxId) -> bool
-    ensures { (ns : List Node) → TellsFree table.now ns → result ≡ is_empty (free_in ns b) }
-{
-    table.free_in(b).is_empty()
 }
 
 /// Whether a box is a plain select, of a graph to which boxes may be added.
@@ -141,38 +130,33 @@ fn are_all_ready(
 // Whether q may feed box c.
 fn is_ready(
     alloc: Global,
-    nodes: &[Node],
+    graph: &Graph,
     facts: &Props,
-    table: &FreeTable,
     c: BoxId,
     q: OwnedQuant,
 ) -> Result<bool, OutOfMemory>
-    requires once { EachOnce (numbers nodes.now) }
-    requires free { TellsFree table.now nodes.now }
-    ensures { IfOk result (λ v. v ≡ spec.is_ready nodes.now (facts_of facts.now) c q) }
+    ensures { IfOk result (λ v. v ≡ spec.is_ready graph.now.boxes (facts_of facts.now) c q) }
 {
-    if !is_closed(table, q.over) || !facts.clean(q.over) {
+    graph.each_number_once();
+    if !facts.clean(q.over) || !is_closed(alloc, graph, q.over)? {
         return Ok(false);
     }
-    are_all_ready(alloc, nodes, facts, c, q)
+    are_all_ready(alloc, graph.nodes(), facts, c, q)
 }
 
-// Whether all of these that feed box c may do so.
+// Whether all of these that feed box c, in which those are free, may do so.
 fn are_ready(
     alloc: Global,
-    nodes: &[Node],
+    graph: &Graph,
     facts: &Props,
-    table: &FreeTable,
+    free: &[QuantId],
     c: BoxId,
     list: &[OwnedQuant],
 ) -> Result<bool, OutOfMemory>
-    requires once { EachOnce (numbers nodes.now) }
-    requires free { TellsFree table.now nodes.now }
-    ensures { IfOk result (λ v. v ≡ code.all_ready nodes.now (facts_of facts.now) c (free_of table.now c) list.now) }
+    ensures { IfOk result (λ v. v ≡ code.all_ready graph.now.boxes (facts_of facts.now) c free.now list.now) }
 {
-    let free = table.free_in(c);
     for q in list {
-        if feeds(free, *q) && !is_ready(alloc, nodes, facts, table, c, *q)? {
+        if feeds(free, *q) && !is_ready(alloc, graph, facts, c, *q)? {
             return Ok(false);
         }
     }
@@ -199,23 +183,21 @@ pub fn fs_of(alloc: Global, list: &[OwnedQuant]) -> Result<Vec<OwnedQuant>, OutO
     Ok(out)
 }
 
-// Whether the box under r may be fed by these quantifiers, by these facts.
+// Whether the box under r, in which those are free, may be fed by these quantifiers, by these facts.
 fn passes(
     alloc: Global,
-    nodes: &[Node],
+    graph: &Graph,
     facts: &Props,
-    table: &FreeTable,
+    free: &[QuantId],
     fs: &[OwnedQuant],
     r: OwnedQuant,
 ) -> Result<bool, OutOfMemory>
-    requires once { EachOnce (numbers nodes.now) }
-    requires free { TellsFree table.now nodes.now }
-    ensures { IfOk result (λ v. v ≡ (spec.is_single [] (facts_of facts.now) r.over r && code.all_ready nodes.now (facts_of facts.now) r.over (free_of table.now r.over) fs.now)) }
+    ensures { IfOk result (λ v. v ≡ (spec.is_single [] (facts_of facts.now) r.over r && code.all_ready graph.now.boxes (facts_of facts.now) r.over free.now fs.now)) }
 {
     if !is_single(facts, r.over, r) {
         return Ok(false);
     }
-    are_ready(alloc, nodes, facts, table, r.over, fs)
+    are_ready(alloc, graph, facts, free, r.over, fs)
 }
 
 // Whether it may be, by what is inferred.
@@ -223,18 +205,16 @@ fn told(
     alloc: Global,
     graph: &Graph,
     known: &mut Inference,
-    table: &FreeTable,
+    free: &[QuantId],
     fs: &[OwnedQuant],
     r: OwnedQuant,
 ) -> Result<bool, OutOfMemory>
-    requires known { KeptOf known.old graph.now.boxes }
-    requires free { TellsFree table.now graph.now.boxes }
+    requires { KeptOf known.old graph.now.boxes }
     ensures known { KeptOf known.new graph.now.boxes }
-    ensures test { IfOk result (λ v. v ≡ code.told graph.now.boxes fs.now r (free_of table.now r.over)) }
+    ensures test { IfOk result (λ v. v ≡ code.told graph.now.boxes fs.now r free.now) }
 {
-    graph.each_number_once();
     let facts = known.take(alloc, graph)?;
-    let passes = passes(alloc, graph.nodes(), &facts, table, fs, r)?;
+    let passes = passes(alloc, graph, &facts, free, fs, r)?;
     known.put(facts);
     Ok(passes)
 }
@@ -244,17 +224,16 @@ pub fn may_feed(
     alloc: Global,
     graph: &Graph,
     known: &mut Inference,
-    table: &FreeTable,
     fs: &[OwnedQuant],
     r: OwnedQuant,
 ) -> Result<bool, OutOfMemory>
-    requires known { KeptOf known.old graph.now.boxes }
-    requires free { TellsFree table.now graph.now.boxes }
+    requires { KeptOf known.old graph.now.boxes }
     ensures known { KeptOf known.new graph.now.boxes }
     ensures test { IfOk result (λ v. v ≡ code.may_feed graph.now.boxes fs.now r) }
 {
-    if is_closed(table, r.over) {
+    if is_closed(alloc, graph, r.over)? {
         return Ok(false);
     }
-    told(alloc, graph, known, table, fs, r)
+    let free = graph.free(alloc, r.over)?;
+    told(alloc, graph, known, &free, fs, r)
 }

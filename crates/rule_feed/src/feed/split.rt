@@ -18,7 +18,7 @@ use crate::feed::condition::feeds;
 use crate::feed::edits::{all_columns, move_all, rename_all};
 use qgm_core::{
     BoxId, BoxKind, BoxParts, Column, Conds, Distinct, Gc, Graph, Head, Node, OwnedQuant, QuantId,
-    QuantKind, Role, free_in, has_range,
+    QuantKind, Role, has_range,
 };
 use qgm_props::Props;
 use qgm_term_search::{add_columns_of_cond, is_node_free_cond};
@@ -173,7 +173,7 @@ pub fn part(
     ensures { IfOk result (λ x. code.IsParted graph.now.boxes b.now c x) }
 {
     graph.each_number_once();
-    let free = free_in(alloc, graph.nodes(), c)?;
+    let free = graph.free(alloc, c)?;
     let list = feeders(alloc, &free, b.quants.as_slice())?;
     let head = all_columns(alloc, graph.nodes(), &list)?;
     let taken = taken(alloc, graph, facts, &list, &b.parts.conds)?;

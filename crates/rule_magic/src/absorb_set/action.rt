@@ -13,7 +13,7 @@ use crate::operands::{Operands, role_over};
 use crate::parts::{new_parts, no_conds};
 use crate::renamed::rename_below;
 use qgm_core::{BoxId, BoxKind, Distinct, Graph, Head, QuantId, QuantKind, Role, SetOperator};
-use qgm_wellformed::is_closed;
+use rule_facts::is_closed;
 use shared_types::OutOfMemory;
 use std::alloc::Global;
 
@@ -84,7 +84,7 @@ fn rename_where(
     requires { HasAll graph.now after.old }
     ensures ok { OnOk result (after.new ≡ spec.renamed_where (as_feeding fed.now) (as_pair operands.now) z graph.now.boxes after.old) }
 {
-    if is_closed(alloc, graph.nodes(), operands.y.id)? {
+    if is_closed(alloc, graph, operands.y.id)? {
         return Ok(());
     }
     let cells = columns(alloc, z.p, width(fed.m))?;

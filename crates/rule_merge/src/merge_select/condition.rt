@@ -19,7 +19,7 @@ use crate::merge_select::copies::{few_copied, levels_fit};
 use crate::merge_select::foreign::any_named;
 use crate::merge_select::lookups::{FEW, Lookups};
 use crate::merge_select::names::{Names, names_in};
-use qgm_core::{BoxId, Graph, Head, Node, OwnedQuant, QuantId, free_in, has_range, node_at};
+use qgm_core::{BoxId, Graph, Head, Node, OwnedQuant, QuantId, has_range, node_at};
 use qgm_props::props;
 use qgm_term_search::{is_node_free, stands_in_cells, stands_in_conds};
 use qgm_terms::{Sought, both};
@@ -89,7 +89,10 @@ fn is_lateral(
     if !s.kind.is_f() || over_base(lookups, s) {
         return Ok(false);
     }
-    let free = free_in(alloc, lookups.graph.nodes(), s.over)?;
+    if let Some(free) = lookups.graph.kept_free(s.over) {
+        return Ok(has_other(c, s.id, free));
+    }
+    let free = lookups.graph.free(alloc, s.over)?;
     Ok(has_other(c, s.id, free.as_slice()))
 }
 

@@ -1,7 +1,5 @@
-use Rattle.std.proofs.Common.{List, ap, sym, ◌∙◌}
+use Rattle.std.proofs.Common.{sym, ◌∙◌}
 use Rattle.std.proofs.lemmas.Result.{IfOk-weaker}
-use Rattle.qgm_core.specs.declared.node.Node.{Node}
-use Rattle.qgm_props.specs.Calm.{is_closed}
 use Rattle.rule_magic.specs.Feeding.{as_feeding}
 use Rattle.rule_magic.specs.Operands.{as_pair}
 use Rattle.rule_magic.proofs.AbsorbOuterActs.{acts-opened, acts-shut, can-there, found, pair-there, preserves-opened, preserves-shut}
@@ -24,19 +22,19 @@ arms_outer-requires c =
 pub returns-then-closed-clause-acts : goal.returns-then-closed-clause-acts
 returns-then-closed-clause-acts c = IfOk-weaker c.left_outer.result _ _
     (acts-shut c.args.graph.now c.each_number_once.ensures c.requires.formed c.args.place c.requires.given (as_feeding c.in-Some.fed) (sym c.in-Some.ensures) (as_pair c.in-Some-operands_of.operands) (sym c.in-Some-operands_of.ensures)
-    (ap (λ (ns : List Node). is_closed ns (as_pair c.in-Some-operands_of.operands).y.id) (sym c.nodes.ensures) ∙ sym c.in_ok-closed.ensures ∙ c.if-closed.true)) c.left_outer.ensures
+    (sym c.in_ok-closed.ensures ∙ c.if-closed.true)) c.left_outer.ensures
 
 pub returns-then-closed-clause-preserves : goal.returns-then-closed-clause-preserves
 returns-then-closed-clause-preserves c = IfOk-weaker c.left_outer.result _ _
     (preserves-shut c.args.graph.now c.each_number_once.ensures c.requires.formed c.args.place c.requires.given (as_feeding c.in-Some.fed) (sym c.in-Some.ensures) (as_pair c.in-Some-operands_of.operands) (sym c.in-Some-operands_of.ensures)
-    (ap (λ (ns : List Node). is_closed ns (as_pair c.in-Some-operands_of.operands).y.id) (sym c.nodes.ensures) ∙ sym c.in_ok-closed.ensures ∙ c.if-closed.true)) c.left_outer.ensures
+    (sym c.in_ok-closed.ensures ∙ c.if-closed.true)) c.left_outer.ensures
 
 pub returns-else-closed-clause-acts : goal.returns-else-closed-clause-acts
 returns-else-closed-clause-acts c = IfOk-weaker c.arms_outer.result _ _
     (acts-opened c.args.graph.now c.each_number_once.ensures c.requires.formed c.args.place c.requires.given (as_feeding c.in-Some.fed) (sym c.in-Some.ensures) (as_pair c.in-Some-operands_of.operands) (sym c.in-Some-operands_of.ensures)
-    (ap (λ (ns : List Node). is_closed ns (as_pair c.in-Some-operands_of.operands).y.id) (sym c.nodes.ensures) ∙ sym c.in_ok-closed.ensures ∙ c.if-closed.false)) c.arms_outer.ensures
+    (sym c.in_ok-closed.ensures ∙ c.if-closed.false)) c.arms_outer.ensures
 
 pub returns-else-closed-clause-preserves : goal.returns-else-closed-clause-preserves
 returns-else-closed-clause-preserves c = IfOk-weaker c.arms_outer.result _ _
     (preserves-opened c.args.graph.now c.each_number_once.ensures c.requires.formed c.args.place c.requires.given (as_feeding c.in-Some.fed) (sym c.in-Some.ensures) (as_pair c.in-Some-operands_of.operands) (sym c.in-Some-operands_of.ensures)
-    (ap (λ (ns : List Node). is_closed ns (as_pair c.in-Some-operands_of.operands).y.id) (sym c.nodes.ensures) ∙ sym c.in_ok-closed.ensures ∙ c.if-closed.false)) c.arms_outer.ensures
+    (sym c.in_ok-closed.ensures ∙ c.if-closed.false)) c.arms_outer.ensures

@@ -1,10 +1,11 @@
-use Rattle.std.proofs.Common.{◌≡◌, ◌+◌, ◌-◌, ◌∙◌, ◌∷◌, ap, sym, subst, ℕ, suc, List, Some, drop, length, slice_get, arith, refl, true}
+use Rattle.std.proofs.Common.{◌≡◌, ◌+◌, ◌-◌, ◌∙◌, ◌∷◌, ap, sym, subst, ℕ, suc, List, [], Some, drop, length, slice_get, arith, refl, false}
+use Rattle.std.proofs.Math.Seq.{drop-length}
 use Rattle.list_laws.specs.Lists.{holds}
 use Rattle.qgm_core.specs.Boxes.{numbers}
-use Rattle.qgm_core.specs.Slots.{stale_in}
+use Rattle.qgm_core.specs.Slots.{behind_with, stale_in}
 use Rattle.qgm_core.specs.declared.node.Node.{Node}
 use Rattle.qgm_core.proofs.Counted.{at-get}
-use Rattle.qgm_core.proofs.Enclosed.{behind-more, drop-back, enclosed}
+use Rattle.qgm_core.proofs.Told.{Passed, drop-back, new-at, passed-more, passed-none, some-then, told-right}
 use Rattle.qgm_core.proofs.Flagged.{under-at}
 use Rattle.qgm_core.proofs.Refreshed.{at-held, refreshed-then, right-one, stale, stale-fewer, stale-one}
 use Rattle.qgm_core.proofs.slots.Slots.refresh.Goals as goal
@@ -21,8 +22,8 @@ refresh_box-requires-clause-within g c =
     let k = under-at (length c.args.self.now.lists) ns (i - 1) n c.requires.numbers at in
     omega (arith, k, long)
 
-pub refresh_box-requires-clause-closed : goal.refresh_box-requires-clause-closed
-refresh_box-requires-clause-closed g c = λ h.
+pub refresh_box-requires-clause-told : goal.refresh_box-requires-clause-told
+refresh_box-requires-clause-told g c =
     let ns = c.args.nodes.now in
     let i = c.boxes.i in
     let n = c.index-nodes-i.result in
@@ -30,9 +31,10 @@ refresh_box-requires-clause-closed g c = λ h.
     let w = c.boxes.invariant.within in
     let at : slice_get ns (i - 1) ≡ Some n = at-get ns (i - 1) n (omega (arith, l, w)) ∙ ap (λ (n : Node). Some n) (sym c.index-nodes-i.is) in
     let back : i ≡ suc (i - 1) = omega (arith, l) in
-    enclosed c.boxes.self ns (i - 1) n c.boxes.behind at c.requires.once c.boxes.invariant.right
-    (λ x t. subst (λ (k : ℕ). holds x (numbers (drop k ns)) ≡ true) back (c.boxes.invariant.behind x t))
-    (c.in_ok-closed.ensures h)
+    let p = subst (λ (k : ℕ). Passed c.boxes.behind c.boxes.owned (drop k ns)) back c.boxes.invariant.passed in
+    some-then c.in_ok-told.told _ _ _
+    (λ qs h e. told-right c.boxes.self ns (i - 1) n c.boxes.behind c.boxes.owned at c.requires.once c.boxes.invariant.right p h ∙ sym e)
+    c.in_ok-told.ensures.told c.in_ok-told.ensures.free
 
 pub boxes-preserved : goal.boxes-preserved
 boxes-preserved g c =
@@ -62,7 +64,25 @@ boxes-preserved g c =
           let s = c.in_ok-refresh_box.ensures.steps_ok in
           let h = c.boxes.invariant.counted in
           omega (arith, one, s, h));
-      behind = λ x t.
-          subst (λ (zs : List Node). holds x (numbers zs) ≡ true) (sym more)
-          (behind-more x n.id c.boxes.behind (numbers (drop i ns)) c.boxes.invariant.behind (subst (λ (ms : List ℕ). holds x ms ≡ true) c.in_ok-push.ensures t));
+      passed = (
+          let e : suc (i - 1) ≡ i = omega (arith, l) in
+          let new = subst (λ (k : ℕ). holds n.id (numbers (drop k ns)) ≡ false) e (new-at ns (i - 1) n at c.requires.once) in
+          let p = passed-more n (drop i ns) c.boxes.behind c.boxes.owned new c.boxes.invariant.passed in
+          subst (λ (zs : List Node). Passed c.pass.new.behind c.pass.new.owned zs) (sym more)
+          (subst (λ (ms : List ℕ). Passed ms c.pass.new.owned (n ∷ drop i ns)) (sym c.in_ok-pass.ensures.behind)
+          (subst (λ (ms : List ℕ). Passed (behind_with n c.boxes.behind) ms (n ∷ drop i ns)) (sym c.in_ok-pass.ensures.owned) p)));
+    }
+
+pub boxes-init : goal.boxes-init
+boxes-init g c =
+    let none : drop (length c.args.nodes.now) c.args.nodes.now ≡ [] = drop-length c.args.nodes.now in
+    record {
+      within = omega arith;
+      rest = (refl, refl, refl, λ b qs e. e);
+      right = c.requires.right;
+      fresh = ap (λ (zs : List Node). stale_in c.args.self.now zs) none;
+      counted = refl;
+      passed =
+          subst (λ (ms : List ℕ). Passed c.new-behind.result ms (drop (length c.args.nodes.now) c.args.nodes.now)) (sym c.new-owned.ensures)
+          (subst (λ (ms : List ℕ). Passed ms [] (drop (length c.args.nodes.now) c.args.nodes.now)) (sym c.new-behind.ensures) (passed-none (drop (length c.args.nodes.now) c.args.nodes.now)));
     }

@@ -5,4 +5,4 @@ use Rattle.rule_feed.proofs.feed.condition.are_ready.Given as goal
 
 -- what is left decides
 abbrev pub invariant-loop-q : goal.invariant-loop-q
-invariant-loop-q l = all_ready l.nodes (facts_of l.facts) l.c l.free (drop l.q-index l.list) ≡ all_ready l.nodes (facts_of l.facts) l.c l.free l.list
+invariant-loop-q l = all_ready l.graph.boxes (facts_of l.facts) l.c l.free (drop l.q-index l.list) ≡ all_ready l.graph.boxes (facts_of l.facts) l.c l.free l.list

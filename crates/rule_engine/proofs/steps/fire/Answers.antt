@@ -3,7 +3,7 @@ use Rattle.rule_api.specs.Rules.{Preserves}
 use Rattle.rule_api.specs.declared.place.Firing.{Firing}
 use Rattle.rule_engine.specs.Control.{candidates, next}
 use Rattle.rule_engine.proofs.Chosen.{next-given, next-none}
-use Rattle.rule_engine.proofs.steps.step.Goals as goal
+use Rattle.rule_engine.proofs.steps.fire.Goals as goal
 
 pub returns-in_default-clause-ok : goal.returns-in_default-clause-ok
 returns-in_default-clause-ok g c =
