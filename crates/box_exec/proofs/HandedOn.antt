@@ -11,16 +11,18 @@ use Rattle.sql_value.specs.declared.level.Level.{Level}
 use Rattle.qgm_core.specs.Boxes.{is_box, is_quant}
 use Rattle.list_laws.specs.Lists.{first}
 use Rattle.qgm_core.specs.declared.kinds.BoxKind.{BoxKind}
+use Rattle.qgm_core.specs.declared.kinds.BoxKind.TheVariants.{Base, Select, Group, SetOp, OuterJoin}
 use Rattle.qgm_core.specs.declared.node.Node.{Node}
 use Rattle.qgm_core.specs.declared.owned.OwnedQuant.{OwnedQuant}
 use Rattle.qgm_terms.specs.Terms.{Cond, Term, col}
-use Rattle.qgm_meaning.specs.Meaning.{Family, bag_in, given_by, once_if, over_each, quant_rows, rows_by, rows_found, rows_of}
+use Rattle.qgm_meaning.specs.Meaning.{Family, bag_in, given_by, once_if, over_each, quant_rows, rows_by, rows_found, rows_of, rows_or_none}
 use Rattle.qgm_meaning.specs.Values.{Bag, Environment, all_true, bound, head_cells, row_of, value}
 use Rattle.row_bag.specs.Order.{cell_of}
-use Rattle.box_exec.specs.HandedOn.{HandsOn, InOrder, is_wide}
+use Rattle.row_bag.specs.Tables.{bag_named}
+use Rattle.box_exec.specs.HandedOn.{HandsOn, InOrder, base_of, is_wide}
 use Rattle.box_exec.specs.Ready.{Entry, Held, Ready}
 use Rattle.row_bag.specs.declared.operand.Operand.{Operand}
-use Rattle.box_exec.proofs.Places.{kept-under}
+use Rattle.box_exec.proofs.Places.{bag-at, kept-under}
 use Rattle.list_laws.proofs.Membership.{eq-itself}
 
 -- ---- the cells of a row
@@ -94,3 +96,20 @@ pub handed-entry : (tables : List Table) (memo : List (Option Operand)) (n : Nod
 handed-entry tables memo n ns behind r i rows on e is kept w ready =
     entry-of tables n ns (slice_get memo (length behind)) rows kept
     (λ env. handed-rows tables n (bag_in tables ns) r on env rows w (kept-under tables memo ns behind r.over i rows e is ready kept env))
+
+-- ---- the rows of a table
+
+base-rows : (k : BoxKind) (tables : List Table) (n : Node) (s : Family) (env : Environment) (name : List ℕ) → base_of k ≡ Some name → rows_by k tables n s env ≡ rows_or_none (bag_named tables name)
+base-rows (Base table) tables n s env name e = let same : table.name ≡ name = cc e in ap (λ (m : List ℕ). rows_or_none (bag_named tables m)) same
+base-rows Select tables n s env name e = absurd (cc e)
+base-rows (Group k) tables n s env name e = absurd (cc e)
+base-rows (SetOp form types) tables n s env name e = absurd (cc e)
+base-rows OuterJoin tables n s env name e = absurd (cc e)
+
+-- the rows of a table that a select hands on
+pub handed-table : (tables : List Table) (n : Node) (ns : List Node) (r : OwnedQuant) (i : ℕ) (b : Node) (name : List ℕ) → HandsOn n r → position (is_box r.over) ns ≡ Some i → b ≡ get_or ns i b → base_of b.parts.kind ≡ Some name
+    → is_wide (length n.parts.head) (rows_or_none (bag_named tables name)) ≡ true → (env : Environment) → Alike (rows_or_none (bag_named tables name)) (rows_of tables n (bag_in tables ns) env)
+handed-table tables n ns r i b name on e at is w env =
+    let below = bag_in tables (drop (i + 1) ns) in
+    handed-rows tables n (bag_in tables ns) r on env (rows_or_none (bag_named tables name)) w
+    (alike-same (sym (bag-at tables ns r.over i b e at env ∙ base-rows b.parts.kind tables b (quant_rows b below) env name is)))

@@ -1,8 +1,9 @@
 -- A select that gives the rows of a box as they are.
-use Rattle.std.specs.Prelude.{ℕ, ◌≡◌, ◌+◌, ◌==◌, Bool, true, false, List, [], ◌∷◌, length, ⊤}
+use Rattle.std.specs.Prelude.{ℕ, ◌≡◌, ◌+◌, ◌==◌, Bool, true, false, List, [], ◌∷◌, length, ⊤, Option, Some, None}
 use Rattle.std.specs.List.{list_all}
 use Rattle.qgm_core.specs.Kinds.{is_F, is_enforce}
-use Rattle.qgm_core.specs.declared.kinds.BoxKind.TheVariants.{Select}
+use Rattle.qgm_core.specs.declared.kinds.BoxKind.{BoxKind}
+use Rattle.qgm_core.specs.declared.kinds.BoxKind.TheVariants.{Base, Select, Group, SetOp, OuterJoin}
 use Rattle.qgm_core.specs.declared.node.Node.{Node}
 use Rattle.qgm_core.specs.declared.owned.OwnedQuant.{OwnedQuant}
 use Rattle.qgm_meaning.specs.Values.{Bag}
@@ -21,6 +22,14 @@ pub record HandsOn (n : Node) (r : OwnedQuant) : Type 0 where
   pub alone : n.quants ≡ r ∷ []
   pub bound : is_F r.kind ≡ true
   pub ordered : InOrder r.id 1 n.parts.head
+
+-- the name of the table that a base is
+abbrev pub base_of : BoxKind → Option (List ℕ)
+base_of (Base table) = Some table.name
+base_of Select = None
+base_of (Group k) = None
+base_of (SetOp form types) = None
+base_of OuterJoin = None
 
 -- each row has so many cells
 abbrev pub is_wide : ℕ → Bag → Bool

@@ -1,8 +1,8 @@
 // Selects that give the rows of a box as they are.
-ghost use Rattle.std.specs.Prelude.{◌≡◌, ◌∷◌, [], ℕ, Bool, List, IfOk, IfSome, slice_get, true, false};
+ghost use Rattle.std.specs.Prelude.{◌≡◌, ◌∷◌, [], ℕ, Bool, List, IfOk, IfSome, Some, slice_get, true, false};
 ghost use Rattle.box_exec.specs.Costs.{Between, Keeps, asked, is_held};
 ghost use Rattle.box_exec.specs.Counted.{Counted};
-ghost use Rattle.box_exec.specs.HandedOn.{HandsOn, InOrder, is_wide};
+ghost use Rattle.box_exec.specs.HandedOn.{HandsOn, InOrder, base_of, is_wide};
 ghost use Rattle.box_exec.specs.Lasting.{AllPlanned};
 ghost use Rattle.box_exec.specs.Plans.{SeeksIn};
 ghost use Rattle.box_exec.specs.Ready.{Entry, Fit, Held, Ready};
@@ -11,22 +11,23 @@ ghost use Rattle.box_exec.specs.Taken.{taken_by};
 ghost use Rattle.box_exec.specs.Takings.{asked_takings};
 ghost use Rattle.qgm_core.specs.Kinds as kinds;
 ghost use Rattle.qgm_core.specs.declared.kinds.BoxKind.TheVariants as kind;
-ghost use Rattle.qgm_meaning.specs.Meaning.{bag_in, rows_of};
+ghost use Rattle.qgm_meaning.specs.Meaning.{bag_in, rows_of, rows_or_none};
 ghost use Rattle.qgm_meaning.specs.Plain.{counted_by};
 ghost use Rattle.qgm_meaning.specs.Values.{Environment};
 ghost use Rattle.qgm_terms.specs.Shown.{term, terms};
 ghost use Rattle.qgm_terms.specs.Terms.{col};
 ghost use Rattle.row_bag.specs.Bags.{Alike};
+ghost use Rattle.row_bag.specs.Tables.{bag_named};
 ghost use Rattle.row_bag.specs.declared.tables.Table.{Table};
 
 use crate::bindings::Bindings;
 use crate::boxes::{evaluated, step};
 use crate::tally::Tally;
-use crate::under::{BoxOver, Run, behind, kept, place_of};
+use crate::under::{BoxOver, Run, behind, kept, place_of, table_rows};
 use qgm_core::{BoxKind, Node, OwnedQuant};
 use qgm_terms::{Gx, QuantId};
 use row_bag::{Bag, Operand, Tables};
-use shared_types::OutOfMemory;
+use shared_types::{OutOfMemory, Text};
 use std::alloc::Global;
 use std::sync::ledger::Ledger;
 use step_count::Steps;
@@ -76,6 +77,16 @@ fn handed_on(node: &Node) -> Option<OwnedQuant>
         Some(*r)
     } else {
         None
+    }
+}
+
+// The name of the table that a base is.
+fn base_name(node: &Node) -> Option<&Text>
+    ensures { IfSome result (λ name. base_of node.now.parts.kind ≡ Some name.now) }
+{
+    match &node.parts.kind {
+        BoxKind::Base(table) => Some(&table.name),
+        BoxKind::Select | BoxKind::Group(_) | BoxKind::SetOp(_, _) | BoxKind::OuterJoin => None,
     }
 }
 
@@ -144,34 +155,79 @@ fn taken<'t>(mut memo: Vec<Option<Operand<'t>>>, k: usize) -> Operand<'t>
     source
 }
 
-/// The rows of the root over those of the boxes behind it, one evaluation more. Rows that it hands on
-/// are taken out of the memo. It fails only for want of memory.
-pub(crate) fn root_rows<L: Ledger>(
+// The rows of the root, which are made of those of the boxes behind it.
+fn made_rows<L: Ledger>(
     alloc: Global,
     tables: &Tables,
-    memo: Vec<Option<Operand<'_>>>,
+    memo: &[Option<Operand<'_>>],
     root: &BoxOver<'_>,
     steps: &mut Steps<L>,
     tally: &mut Tally,
 ) -> Result<Bag, OutOfMemory>
+    requires ready { Ready tables.now memo.now root.now.below.now }
+    requires fit { Fit root.now.node.now root.now.below.now }
+    requires plans { AllPlanned memo.now root.now.plans.now (root.now.node.now ∷ root.now.below.now) }
+    ensures rows { IfOk result (λ bag. Alike bag (rows_of tables.now root.now.node.now (bag_in tables.now root.now.below.now) [])) }
+    ensures counted { (start : ℕ) → Counted start steps.old tally.old.count → Counted start steps.new tally.new.count }
+    ensures took { (kept : ℕ → Bool) → Keeps memo.now kept root.now.below.now → IfOk result (λ bag. Between 1 (counted_by root.now.node.now.parts.kind root.now.node.now (bag_in tables.now root.now.below.now) (asked tables.now kept root.now.below.now) []) steps.old steps.new) }
+    ensures taken { (kept : ℕ → Bool) → SeeksIn root.now.indexed memo.now root.now.plans.now kept root.now.node.now root.now.below.now → IfOk result (λ bag. Between 0 (taken_by kept root.now.node.now.parts.kind root.now.node.now (bag_in tables.now root.now.below.now) (asked_takings tables.now kept root.now.below.now) []) tally.old.taken tally.new.taken) }
+{
+    let run = Run {
+        alloc,
+        tables,
+        memo,
+        plans: root.plans,
+        indexed: root.indexed,
+    };
+    evaluated(&run, root.node, root.below, &Bindings::Empty, steps, tally)
+}
+
+/// The rows of the root over those of the boxes behind it, one evaluation more. Rows that it hands on
+/// are taken out of the memo, and stay where they stand. It fails only for want of memory.
+pub(crate) fn root_rows<'t, L: Ledger>(
+    alloc: Global,
+    tables: &'t Tables,
+    memo: Vec<Option<Operand<'t>>>,
+    root: &BoxOver<'_>,
+    steps: &mut Steps<L>,
+    tally: &mut Tally,
+) -> Result<Operand<'t>, OutOfMemory>
     requires ready { Ready tables.now memo.items root.now.below.now }
     requires fit { Fit root.now.node.now root.now.below.now }
     requires plans { AllPlanned memo.items root.now.plans.now (root.now.node.now ∷ root.now.below.now) }
-    ensures rows { IfOk result (λ bag. Alike bag (rows_of tables.now root.now.node.now (bag_in tables.now root.now.below.now) [])) }
+    ensures rows { IfOk result (λ r. Alike (held r) (rows_of tables.now root.now.node.now (bag_in tables.now root.now.below.now) [])) }
     ensures counted { (start : ℕ) → Counted start steps.old tally.old.count → Counted start steps.new tally.new.count }
-    ensures took { (kept : ℕ → Bool) → Keeps memo.entry.items kept root.now.below.now → IfOk result (λ bag. Between 1 (counted_by root.now.node.now.parts.kind root.now.node.now (bag_in tables.now root.now.below.now) (asked tables.now kept root.now.below.now) []) steps.old steps.new) }
-    ensures taken { (kept : ℕ → Bool) → SeeksIn root.now.indexed memo.entry.items root.now.plans.now kept root.now.node.now root.now.below.now → IfOk result (λ bag. Between 0 (taken_by kept root.now.node.now.parts.kind root.now.node.now (bag_in tables.now root.now.below.now) (asked_takings tables.now kept root.now.below.now) []) tally.old.taken tally.new.taken) }
+    ensures took { (kept : ℕ → Bool) → Keeps memo.entry.items kept root.now.below.now → IfOk result (λ r. Between 1 (counted_by root.now.node.now.parts.kind root.now.node.now (bag_in tables.now root.now.below.now) (asked tables.now kept root.now.below.now) []) steps.old steps.new) }
+    ensures taken { (kept : ℕ → Bool) → SeeksIn root.now.indexed memo.entry.items root.now.plans.now kept root.now.node.now root.now.below.now → IfOk result (λ r. Between 0 (taken_by kept root.now.node.now.parts.kind root.now.node.now (bag_in tables.now root.now.below.now) (asked_takings tables.now kept root.now.below.now) []) tally.old.taken tally.new.taken) }
 {
     let Some(k) = handed_place(&memo, root) else {
-        let run = Run {
-            alloc,
-            tables,
-            memo: &memo,
-            plans: root.plans,
-            indexed: root.indexed,
-        };
-        return evaluated(&run, root.node, root.below, &Bindings::Empty, steps, tally);
+        let rows = made_rows(alloc, tables, &memo, root, steps, tally)?;
+        return Ok(Operand::Made(rows));
     };
     step(steps, tally);
-    taken(memo, k).into_bag(alloc)
+    Ok(taken(memo, k))
+}
+
+/// The name of a table whose rows a box hands on.
+pub(crate) fn table_handed_on<'g>(
+    tables: &Tables,
+    node: &'g Node,
+    below: &'g [Node],
+) -> Option<&'g Text>
+    ensures { IfSome result (λ name. (env : Environment) → Alike (rows_or_none (bag_named tables.now name.now)) (rows_of tables.now node.now (bag_in tables.now below.now) env)) }
+{
+    let Some(r) = handed_on(node) else {
+        return None;
+    };
+    let Some(i) = place_of(below, r.over) else {
+        return None;
+    };
+    let Some(name) = base_name(&below[i]) else {
+        return None;
+    };
+    if is_wide(table_rows(tables, name), node.parts.head.len()) {
+        Some(name)
+    } else {
+        None
+    }
 }

@@ -30,7 +30,7 @@ mod under;
 
 pub use bindings::Bindings;
 pub use evaluation::{hold, value};
-pub use execution::{execute, execute_plain, execute_taken};
+pub use execution::{execute, execute_owned, execute_plain, execute_taken};
 pub use indexed_rows::IndexedRows;
 pub use laws::execution_laws;
 pub use source::{Sub, SubRows};

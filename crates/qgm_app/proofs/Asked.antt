@@ -76,24 +76,3 @@ pub satisfies : LoadedSatisfies → (q : Question) → IsReady q → (g : QueryG
 satisfies law q ready g h =
     law (catalogs.catalog q.catalog) (written.query_text q.valid.query) q.valid.checked.names q.valid.checked.order g q.tables
     (is-valid q (sound-of q ready)) (h (written.query_text q.valid.query) (of-text q (sound-of q ready))) ready.tables
-
--- ---- what its rows take
-
-pub is-run : (plan : Plan) (q : asked.Question) (g : QueryGraph) (n firings before after : ℕ) → IsBuilt q g → firings ≡ n → IsRewritten q.tables plan g n before after → IsRun plan q firings before after
-is-run plan q g n firings before after built same h = record {
-  graph = g;
-  built = built;
-  rewritten = subst (λ (k : ℕ). IsRewritten q.tables plan g k before after) (sym same) h;
-}
-
--- a text that was empty before
-pub is-explanation : (plan : Plan) (q : asked.Question) (g : QueryGraph) (n evals before after : ℕ) (old text new : List ℕ) → IsBuilt q g → evals ≡ min (after - before) 18446744073709551615
-    → old ≡ [] → new ≡ old ++ text → IsTold q.tables plan g n evals before after text → IsExplanation plan q before after new
-is-explanation plan q g n evals before after old text new built counted empty is told = record {
-  graph = g;
-  built = built;
-  firings = n;
-  evals = evals;
-  counted = counted;
-  told = subst (λ (x : List ℕ). IsTold q.tables plan g n evals before after x) (sym (is ∙ ap (λ (x : List ℕ). x ++ text) empty)) told;
-}

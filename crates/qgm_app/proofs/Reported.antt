@@ -30,7 +30,6 @@ use Rattle.qgm_app.specs.Runs.{ComesTo, IsSaid, Prepares}
 use Rattle.qgm_app.specs.Stated.{IsStated}
 use Rattle.qgm_app.specs.Telling.{CountsBy, IsErrorReport, IsReported, TellsBy, report_behind, report_of, row_number, statement_line, summary}
 use Rattle.qgm_app.specs.declared.answers.Answered.{Answered}
-use Rattle.qgm_app.proofs.Asked.{is-run}
 
 -- ---- answers
 
@@ -39,29 +38,12 @@ pub of-each : {X E : Type 0} (r : Result X E) (P : Type 0) → P → IfOk r (λ 
 of-each (Ok x) P p = p
 of-each (Err e) P p = tt
 
--- what ran gives the rows that the root has
-pub ran-rows : (r : Result Ran OutOfMemory) (root rows : List (Row (List Cell))) → IfOk r (λ ran. Agree same_cells ran.rows root) → root ≡ rows → IfOk r (λ ran. Agree same_cells ran.rows rows)
-ran-rows (Ok ran) root rows h is = subst (λ (xs : List (Row (List Cell))). Agree same_cells ran.rows xs) is h
-ran-rows (Err e) root rows h is = tt
-
--- and is a run
-pub ran-run : (r : Result Ran OutOfMemory) (plan : Plan) (q : Question) (g : QueryGraph) (before after : ℕ)
-    → IsBuilt q g → IfOk r (λ ran. IsRewritten q.tables plan g ran.firings before after) → IfOk r (λ ran. IsRun plan q ran.firings before after)
-ran-run (Ok ran) plan q g before after built h = is-run plan q g ran.firings ran.firings before after built refl h
-ran-run (Err e) plan q g before after built h = tt
-
 -- the answer of rows that agree with a question's
 pub settled-answer : (r : Result Answered OutOfMemory) (names : List (Option (List ℕ))) (order : List OrderKey) (bag rows : List (Row (List Cell))) (what : Answer)
     → IfOk r (λ a. (rows : List (Row (List Cell))) → Agree same_cells bag rows → held_answer a ≡ answer_of names order (verdict rows))
     → Agree same_cells bag rows → answer_of names order (verdict rows) ≡ what → IfOk r (λ a. held_answer a ≡ what)
 settled-answer (Ok a) names order bag rows what h agree means = h rows agree ∙ means
 settled-answer (Err e) names order bag rows what h agree means = tt
-
--- and how they were come by
-pub settled-run : (r : Result Answered OutOfMemory) (plan : Plan) (q : Question) (n before after : ℕ)
-    → IfOk r (λ a. a.firings ≡ n) → IsRun plan q n before after → IfOk r (λ a. IsRun plan q a.firings before after)
-settled-run (Ok a) plan q n before after same h = subst (λ (k : ℕ). IsRun plan q k before after) (sym same) h
-settled-run (Err e) plan q n before after same h = tt
 
 -- ---- reports
 

@@ -26,7 +26,7 @@ use qgm_core::Graph;
 use qgm_run::{Ran, run_rewritten, tell_rewritten};
 use qgm_translation_laws::loaded_laws;
 use qgm_wellformed::fault_laws;
-use row_bag::{Bag, Verdict, bag_laws, sorted, verdict};
+use row_bag::{Bag, Tables, Verdict, bag_laws, sorted, verdict};
 use rule_plan::Plan;
 use shared_types::{OutOfMemory, Text};
 use sql_check::Heading;
@@ -90,12 +90,19 @@ fn graph_of(alloc: Global, question: &Question) -> Result<Graph, OutOfMemory>
     Ok(graph)
 }
 
-// The heading of a question's query. The tables and all else go, before the rows are sorted.
-fn heading_of(question: Question) -> Heading
-    ensures names { result.names ≡ question.valid.checked.names }
-    ensures order { result.order ≡ question.valid.checked.order }
+// The heading of a question's query, and its tables. All else goes.
+fn parted(question: Question) -> (Heading, Tables)
+    ensures names { result.0.names ≡ question.valid.checked.names }
+    ensures order { result.0.order ≡ question.valid.checked.order }
+    ensures tables { result.1 ≡ question.tables }
 {
-    question.valid.into_checked().into_heading()
+    let Question {
+        catalog: _,
+        views: _,
+        valid,
+        tables,
+    } = question;
+    (valid.into_checked().into_heading(), tables)
 }
 
 // The rows in the order of these keys, or their greatest error.
@@ -122,37 +129,45 @@ fn settled(alloc: Global, heading: Heading, ran: Ran) -> Result<Answered, OutOfM
     })
 }
 
-// The rows of a question: its graph is rewritten by a plan, and executed.
+// The heading of a question and its rows: its graph is rewritten by a plan, and executed.
 fn ran<L: Ledger>(
     alloc: Global,
-    question: &Question,
+    question: Question,
     plan: &Plan,
     steps: &mut Steps<L>,
-) -> Result<Ran, OutOfMemory>
-    requires ready { IsReady question.now }
-    ensures rows { IfOk result (λ ran. Agree same_cells ran.rows (rows_of question.now.views question.now.valid.checked question.now.tables)) }
-    ensures run { IfOk result (λ ran. IsRun plan.now (question_of question.now) ran.firings steps.old steps.new) }
+) -> Result<(Heading, Ran), OutOfMemory>
+    requires ready { IsReady question }
+    ensures names { IfOk result (λ x. x.0.names ≡ question.valid.checked.names) }
+    ensures order { IfOk result (λ x. x.0.order ≡ question.valid.checked.order) }
+    ensures rows { IfOk result (λ x. Agree same_cells x.1.rows (rows_of question.views question.valid.checked question.tables)) }
+    ensures run { IfOk result (λ x. IsRun plan.now (question_of question) x.1.firings steps.old steps.new) }
 {
-    let graph = graph_of(alloc, question)?;
-    run_rewritten(alloc, graph, plan, &question.tables, steps)
+    let graph = graph_of(alloc, &question);
+    let (heading, tables) = parted(question);
+    let ran = run_rewritten(alloc, graph?, plan, tables, steps)?;
+    Ok((heading, ran))
 }
 
-// The rows of a question, and the text that tells of its rewriting and execution.
+// The heading of a question, its rows, and the text that tells of its rewriting and execution.
 fn told<L: Ledger>(
     alloc: Global,
-    question: &Question,
+    question: Question,
     plan: &Plan,
     steps: &mut Steps<L>,
-) -> Result<(Ran, Text), OutOfMemory>
-    requires ready { IsReady question.now }
-    ensures rows { IfOk result (λ x. Agree same_cells x.0.rows (rows_of question.now.views question.now.valid.checked question.now.tables)) }
-    ensures run { IfOk result (λ x. IsRun plan.now (question_of question.now) x.0.firings steps.old steps.new) }
-    ensures text { IfOk result (λ x. IsExplanation plan.now (question_of question.now) steps.old steps.new x.1) }
+) -> Result<(Heading, Ran, Text), OutOfMemory>
+    requires ready { IsReady question }
+    ensures names { IfOk result (λ x. x.0.names ≡ question.valid.checked.names) }
+    ensures order { IfOk result (λ x. x.0.order ≡ question.valid.checked.order) }
+    ensures rows { IfOk result (λ x. Agree same_cells x.1.rows (rows_of question.views question.valid.checked question.tables)) }
+    ensures run { IfOk result (λ x. IsRun plan.now (question_of question) x.1.firings steps.old steps.new) }
+    ensures text { IfOk result (λ x. IsExplanation plan.now (question_of question) steps.old steps.new x.2) }
 {
+    let graph = graph_of(alloc, &question);
+    let (heading, tables) = parted(question);
+    let graph = graph?;
     let mut text = Text::new(alloc)?;
-    let graph = graph_of(alloc, question)?;
-    let ran = tell_rewritten(alloc, graph, plan, &question.tables, steps, &mut text)?;
-    Ok((ran, text))
+    let ran = tell_rewritten(alloc, graph, plan, tables, steps, &mut text)?;
+    Ok((heading, ran, text))
 }
 
 /// The answer to a question: its graph is built, rewritten by a plan, and executed. Each evaluation of
@@ -168,9 +183,7 @@ pub fn answer<L: Ledger>(
     ensures run { IfOk result (λ a. IsRun plan.now (question_of question) a.firings steps.old steps.new) }
 {
     loaded_laws();
-    let ran = ran(alloc, &question, plan, steps);
-    let heading = heading_of(question);
-    let ran = ran?;
+    let (heading, ran) = ran(alloc, question, plan, steps)?;
     settled(alloc, heading, ran)
 }
 
@@ -189,9 +202,7 @@ pub fn explain<L: Ledger>(
     ensures text { IfOk result (λ e. IsExplanation plan.now (question_of question) steps.old steps.new e.text) }
 {
     loaded_laws();
-    let told = told(alloc, &question, plan, steps);
-    let heading = heading_of(question);
-    let (ran, text) = told?;
+    let (heading, ran, text) = told(alloc, question, plan, steps)?;
     let answered = settled(alloc, heading, ran)?;
     Ok(Explained { answered, text })
 }

@@ -21,20 +21,21 @@ use std::alloc::Global;
 use std::sync::ledger::Ledger;
 use step_count::Steps;
 
-/// Rewrites a graph by the rules that are built, and executes the graph that the rewriting ends in.
+/// Rewrites a graph by the rules that are built, and executes the graph that the rewriting ends in over
+/// tables that are given up.
 /// It fails only where there is no memory.
 #[tactic(auto, using(crate::proofs::Rewritten::rows_of_rewritten, crate::proofs::Rewritten::is_rewritten))]
 pub fn run_rewritten<L: Ledger>(
     alloc: Global,
     graph: Graph,
     plan: &Plan,
-    tables: &Tables,
+    tables: Tables,
     steps: &mut Steps<L>,
 ) -> Result<Ran, OutOfMemory>
     requires formed { WellFormed graph }
-    requires satisfied { Satisfies tables.now graph.boxes }
-    ensures rows { IfOk result (λ a. Agree same_cells a.rows (root_bag tables.now graph)) }
-    ensures rewritten { IfOk result (λ a. IsRewritten tables.now plan.now graph a.firings steps.old steps.new) }
+    requires satisfied { Satisfies tables graph.boxes }
+    ensures rows { IfOk result (λ a. Agree same_cells a.rows (root_bag tables graph)) }
+    ensures rewritten { IfOk result (λ a. IsRewritten tables plan.now graph a.firings steps.old steps.new) }
     ensures counted { IfOk result (λ a. a.evals ≡ min (steps.new - steps.old) 18446744073709551615) }
     ensures never_less { steps.old ≤ steps.new }
 {
@@ -55,15 +56,15 @@ pub fn tell_rewritten<L: Ledger>(
     alloc: Global,
     graph: Graph,
     plan: &Plan,
-    tables: &Tables,
+    tables: Tables,
     steps: &mut Steps<L>,
     out: &mut Text,
 ) -> Result<Ran, OutOfMemory>
     requires formed { WellFormed graph }
-    requires satisfied { Satisfies tables.now graph.boxes }
-    ensures rows { IfOk result (λ a. Agree same_cells a.rows (root_bag tables.now graph)) }
-    ensures rewritten { IfOk result (λ a. IsRewritten tables.now plan.now graph a.firings steps.old steps.new) }
-    ensures told { IfOk result (λ a. (text : List ℕ) × (out.new ≡ out.old ++ text) × IsTold tables.now plan.now graph a.firings a.evals steps.old steps.new text) }
+    requires satisfied { Satisfies tables graph.boxes }
+    ensures rows { IfOk result (λ a. Agree same_cells a.rows (root_bag tables graph)) }
+    ensures rewritten { IfOk result (λ a. IsRewritten tables plan.now graph a.firings steps.old steps.new) }
+    ensures told { IfOk result (λ a. (text : List ℕ) × (out.new ≡ out.old ++ text) × IsTold tables plan.now graph a.firings a.evals steps.old steps.new text) }
     ensures counted { IfOk result (λ a. a.evals ≡ min (steps.new - steps.old) 18446744073709551615) }
     ensures never_less { steps.old ≤ steps.new }
 {

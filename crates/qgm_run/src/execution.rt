@@ -6,7 +6,7 @@ ghost use Rattle.qgm_run.specs.Answers.{Evaluates};
 ghost use Rattle.row_bag.specs.Bags.{Agree};
 ghost use Rattle.row_bag.specs.Sets.{same_cells};
 
-use box_exec::{execute, execution_laws};
+use box_exec::{execute_owned, execution_laws};
 use qgm_core::Graph;
 use row_bag::{Bag, Tables};
 use shared_types::OutOfMemory;
@@ -14,22 +14,23 @@ use std::alloc::Global;
 use std::sync::ledger::Ledger;
 use step_count::Steps;
 
-/// The rows of a well-formed graph, and how many evaluations of boxes they took.
+/// The rows of a well-formed graph over tables that are given up, and how many evaluations of boxes they
+/// took.
 #[tactic(auto, using(crate::proofs::Fit::fit_of_formed, crate::proofs::Fit::evaluates_of_formed))]
 pub fn executed<L: Ledger>(
     alloc: Global,
     graph: &Graph,
-    tables: &Tables,
+    tables: Tables,
     steps: &mut Steps<L>,
 ) -> Result<(Bag, u64), OutOfMemory>
     requires { WellFormed graph.now }
-    ensures rows { IfOk result (λ r. Agree same_cells r.0 (root_bag tables.now graph.now)) }
-    ensures evaluates { IfOk result (λ r. Evaluates tables.now graph.now steps.old steps.new) }
+    ensures rows { IfOk result (λ r. Agree same_cells r.0 (root_bag tables graph.now)) }
+    ensures evaluates { IfOk result (λ r. Evaluates tables graph.now steps.old steps.new) }
     ensures counted { IfOk result (λ r. r.1 ≡ min (steps.new - steps.old) 18446744073709551615) }
     ensures never_less { steps.old ≤ steps.new }
 {
     graph.each_number_once();
     execution_laws();
-    let (rows, evals) = execute(alloc, graph, tables, steps)?;
+    let (rows, evals) = execute_owned(alloc, graph, tables, steps)?;
     Ok((rows, evals))
 }

@@ -1,6 +1,7 @@
 use Rattle.std.proofs.Common.{sym, ◌∙◌, ◌∷◌, arith, subst}
 use Rattle.box_exec.specs.Lasting.{AllPlanned}
 use Rattle.box_exec.proofs.Roots.{root-behind, root-fit, root-none, root-ordered, root-rows, root-takes, root-there, root-took}
+use Rattle.box_exec.specs.Sources.{held}
 use Rattle.box_exec.specs.Takings.{AllSeek}
 use Rattle.box_exec.proofs.Totals.{took-exactly, took-within}
 use Rattle.box_exec.proofs.Ways.{TookRows, taken-within}
@@ -21,7 +22,7 @@ root_rows-requires-clause-fit g c =
 
 pub returns-clause-rows : goal.returns-clause-rows
 returns-clause-rows g c =
-    root-rows c.args.graph.now.boxes c.nodes-nodes.result.now c.args.graph.now.root c.root-root.result c.nodes-nodes.ensures c.root-root.ensures c.args.tables.now c.in-Some.i c.index-nodes-i.result c.behind-below.result.now c.in_ok-rows.rows (sym c.place_of.ensures ∙ c.in-Some.is) c.index-nodes-i.is c.behind-below.ensures c.in_ok-rows.ensures.rows
+    root-rows c.args.graph.now.boxes c.nodes-nodes.result.now c.args.graph.now.root c.root-root.result c.nodes-nodes.ensures c.root-root.ensures c.args.tables.now c.in-Some.i c.index-nodes-i.result c.behind-below.result.now (held c.in_ok-rows.rows) (sym c.place_of.ensures ∙ c.in-Some.is) c.index-nodes-i.is c.behind-below.ensures c.in_ok-rows.ensures.rows
 
 pub returns-in_default-clause-took : goal.returns-in_default-clause-took
 returns-in_default-clause-took g c = λ has kept how.

@@ -1,4 +1,4 @@
-use Rattle.std.proofs.Common.{◌∙◌, ap₂, List, arith}
+use Rattle.std.proofs.Common.{◌∙◌, ap, ap₂, sym, List}
 use Rattle.qgm_terms.specs.Shown.{terms}
 use Rattle.qgm_terms.specs.declared.tree.Gx.{Gx}
 use Rattle.box_exec.specs.Groups.{by_keys}
@@ -6,7 +6,7 @@ use Rattle.std.proofs.lemmas.Result.{IfOk-weaker}
 use Rattle.row_bag.proofs.Agreement.{alike-same, alike-trans}
 use Rattle.box_exec.specs.Bound.{env_of}
 use Rattle.box_exec.proofs.Keys.{head-split}
-use Rattle.std.proofs.lemmas.Grind.{common_steps}
+use Rattle.qgm_meaning.specs.Meaning.{grouped_rows}
 use Rattle.box_exec.proofs.grouping.in_groups.Goals as goal
 
 pub returns : goal.returns
@@ -20,4 +20,6 @@ returns c =
     c.by_keys.ensures
 
 pub returns-then-keys-eq0 : goal.returns-then-keys-eq0
-returns-then-keys-eq0 c = grind (arith, common_steps)
+returns-then-keys-eq0 c =
+    let env = env_of c.args.env.now in
+    IfOk-weaker c.whole.result _ _ (λ made h. alike-same (h ∙ ap (λ keys. grouped_rows keys (terms c.args.head.now) c.args.quant env c.args.rows.now) (sym c.if-keys-eq0.true))) c.whole.ensures

@@ -1,14 +1,10 @@
 use Rattle.std.proofs.lemmas.Grind.{common_steps}
 use Rattle.std.proofs.Common.{[], slice_get, sym, subst, arith}
-use Rattle.std.proofs.lemmas.Result.{IfOk-weaker}
 use Rattle.box_exec.specs.Costs.{Keeps}
+use Rattle.box_exec.specs.Sources.{held}
 use Rattle.box_exec.specs.Ready.{Entry, Held, Ready}
 use Rattle.box_exec.proofs.Places.{entry-holds}
 use Rattle.box_exec.proofs.handed_on.root_rows.Goals as goal
-
-pub returns-in_default-clause-took : goal.returns-in_default-clause-took
-returns-in_default-clause-took g c = λ kept keeps.
-    c.evaluated.ensures.took kept (subst (λ (m : _). Keeps m kept c.args.root.now.below.now) (sym c.deref-in_default.ensures.value) keeps)
 
 pub returns-clause-rows : goal.returns-clause-rows
 returns-clause-rows g c =
@@ -19,26 +15,18 @@ returns-clause-rows g c =
     let entry : Entry tables n below o =
     subst (λ (m : _). Entry tables n below (slice_get m c.in-Some.k)) c.deref.ensures.value
     (c.in-Some.ensures.entry tables (subst (λ (m : _). Ready tables m below) (sym c.deref.ensures.value) c.requires.ready)) in
-    IfOk-weaker c.into_bag.result _ _ (λ bag h. entry-holds tables n below o bag [] entry (subst (λ (b : _). Held o b) (sym h) c.taken.ensures)) c.into_bag.ensures
-
-pub evaluated-requires-clause-ready : goal.evaluated-requires-clause-ready
-evaluated-requires-clause-ready g c = grind (arith, common_steps)
+    entry-holds tables n below o (held c.taken.result) [] entry c.taken.ensures
 
 pub taken-requires : goal.taken-requires
 taken-requires g c = grind (arith, common_steps)
 
-pub returns-in_default-clause-rows : goal.returns-in_default-clause-rows
-returns-in_default-clause-rows g c = grind (arith, common_steps)
-
-pub returns-clause-counted : goal.returns-clause-counted
-returns-clause-counted g c = grind (arith, common_steps)
-
-pub returns-in_default-clause-counted : goal.returns-in_default-clause-counted
-returns-in_default-clause-counted g c = grind (arith, common_steps)
+pub returns-in_default-clause-took : goal.returns-in_default-clause-took
+returns-in_default-clause-took g c = λ kept keeps.
+    c.in_ok-rows.ensures.took kept (subst (λ (m : _). Keeps m kept c.args.root.now.below.now) (sym c.deref-in_default.ensures.value) keeps)
 
 pub returns-in_default-clause-taken : goal.returns-in_default-clause-taken
 returns-in_default-clause-taken g c = λ kept seeks.
-    c.evaluated.ensures.taken kept (record {
+    c.in_ok-rows.ensures.taken kept (record {
       by_keys = seeks.by_keys;
       keeps = subst (λ (m : _). Keeps m kept c.args.root.now.below.now) (sym c.deref-in_default.ensures.value) seeks.keeps;
       ordered = seeks.ordered;
